@@ -29,8 +29,8 @@ use Rattle.machine_moves.proofs.Bound.{goes_told}
 use Rattle.machine_moves.proofs.Packets.{keeps_same, goes_keep}
 use Rattle.mds_rule.specs.MdsStates.{MdsSend, MdsValue, MdsStep}
 use Rattle.mds_rule.specs.Spelled.{spelled_send}
-use Rattle.mds_laws.specs.MdsRuns.{MdsEvent, after_event}
-use Rattle.mds_laws.proofs.Lists.{AllOf, in_more}
+use Rattle.mds_walk.specs.MdsRuns.{MdsEvent, after_event}
+use Rattle.mds_walk.proofs.Lists.{AllOf, in_more}
 use Rattle.mds_forms.specs.Forms.{IsNoPacket, IsInForm, StaysInForm, MdsStaysInForm}
 use Rattle.mds_moves.specs.MdsMoves.{IsMdsOf, MayComeTo}
 use Rattle.mds_moves.specs.MdsBinds.{IsReachedBy, EndsByReturn, EndsByOwn, IsCleanEnd, EndsInOrder, MdsHasOwnWrites, BoundGoesOnBy, MdsGoesOnBound}

@@ -29,7 +29,7 @@ use Rattle.mds_receive.specs.MdsReceive.{of_reply}
 use Rattle.mds_rule.specs.MdsStates.{MdsSend, MdsValue, CallsServer, CallsBack, Replies, Answers}
 use Rattle.mds_rule.specs.Spelled.{mds_name, spelled_send}
 use Rattle.mds_laws.specs.MdsRunLaws.{number_sent}
-use Rattle.mds_laws.proofs.Lists.{AllOf, all_in}
+use Rattle.mds_walk.proofs.Lists.{AllOf, all_in}
 use Rattle.mds_laws.proofs.Keeping.{is_read_call}
 use Rattle.mds_moves.specs.MdsMoves.{message_of, IsSpoken, IsSentIn, IsSendAnswered, MayComeFrom}
 use Rattle.mds_forms.specs.Forms.{IsNoPacket, IsInForm}

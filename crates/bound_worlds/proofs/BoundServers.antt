@@ -29,7 +29,7 @@ use Rattle.machine_moves.specs.MachineMoves.{KeepsPackets}
 use Rattle.machine_moves.proofs.Packets.{keeps_same, keeps_then, moves_keep}
 use Rattle.machine_moves.proofs.Going.{telling_append}
 use Rattle.mds_rule.specs.MdsStates.{MdsSend, MdsValue}
-use Rattle.mds_laws.proofs.Lists.{AllOf}
+use Rattle.mds_walk.proofs.Lists.{AllOf}
 use Rattle.mds_forms.specs.Forms.{IsNoPacket, IsInForm}
 use Rattle.mds_moves.specs.MdsMoves.{IsMdsOf}
 use Rattle.mds_moves.specs.MdsBinds.{MdsHasOwnWrites, OwnWritesStay}

@@ -26,12 +26,12 @@ use Rattle.client_laws.specs.ClientHistory.{ClientInput, Requested, Recorded, Ti
 use Rattle.client_sends.specs.SendsOfUsers.{IsUserSend, is_user_entry, SendsAsUser, EntersAsUser, IsRecordOfUser}
 use Rattle.mds_rule.specs.MdsStates.{ServedFile, MdsSend, MdsValue, served, numbered}
 use Rattle.mds_rule.specs.Spelled.{spelled_send}
-use Rattle.mds_laws.specs.MdsRuns.{MdsEvent, Hears, IsTimedOut, Ticks, RecallsFile, Resilvers, after_event}
+use Rattle.mds_walk.specs.MdsRuns.{MdsEvent, Hears, IsTimedOut, Ticks, RecallsFile, Resilvers, after_event}
 use Rattle.mds_moves.specs.MdsMoves.{MayComeTo}
 use Rattle.packet_table.specs.declared.note.PacketNote.{PacketNote}
 use Rattle.packet_table.specs.Packets.{packet_numbered, number_between}
 use Rattle.proper_servers.specs.ProperServers.{IsProper}
-use Rattle.world_rule.specs.Machines.{MachinesValue, does_nothing, nth, mds_did, mds_acts, client_did, client_at, client_acts, server_did, server_at, server_acts, receives, times_out, leaves, goes_astray, starts_anew, started, restarts_at, restarts, audit_of, audits_of}
+use Rattle.world_rule.specs.Machines.{MachinesValue, does_nothing, nth, mds_did, mds_acts, client_did, client_at, client_acts, server_did, server_at, server_acts, receives, times_out, leaves, goes_astray, starts_anew, started, restarts_at, restarts, audit_of, audits_of, is_asked}
 use Rattle.world_rule.specs.Sent.{bytes_at_place}
 use Rattle.world_rule.specs.ClusterWorlds.{ClusterState, entering, packets, acting, packet_comes, delivering, delivering_some, client_ticks, clients_tick, ticking, asking, behind}
 use Rattle.world_journal.specs.SentPackets.{packets_of as posted}
@@ -47,7 +47,6 @@ use Rattle.bound_worlds.specs.BoundWorlds.{IsBoundRun, IsBoundRunOf, BeginsOther
 use Rattle.bound_worlds.proofs.Notes.{BoundLaws, all_notes, all_quiet}
 use Rattle.bound_worlds.proofs.BoundActs.{MdsLaws, none_own, posts_otherwise, posts, mds_acts_so}
 use Rattle.bound_worlds.proofs.BoundPackets.{RecordLaws, from_client, from_mds}
-use Rattle.world_rule.specs.Machines.{is_asked}
 use Rattle.bound_worlds.proofs.BoundEvents.{UserLaws, SplitAt, split_at, still_there, other_join, none_other, user_other, posted_other, regroup, nothing_so, quiet_so, client_acts_so, client_alone, alone, mds_so, CameFrom, server_so, restarted_so}
 
 module _ (laws : BoundLaws) (by_mds : MdsLaws) (records : RecordLaws) (users : UserLaws) (boots : List ℕ) where

@@ -14,7 +14,7 @@ use Rattle.machine_moves.specs.MachineMoves.{KeepsPackets}
 use Rattle.machine_moves.proofs.Going.{telling_append, after_append, journal_append}
 use Rattle.machine_moves.proofs.Bound.{bound_join}
 use Rattle.mds_rule.specs.MdsStates.{MdsSend, MdsValue}
-use Rattle.mds_laws.proofs.Lists.{AllOf}
+use Rattle.mds_walk.proofs.Lists.{AllOf}
 use Rattle.mds_forms.specs.Forms.{IsInForm}
 use Rattle.mds_forms.proofs.FormedSends.{all_join}
 use Rattle.mds_moves.specs.MdsMoves.{IsMdsOf}

@@ -7,7 +7,7 @@ use Rattle.cluster_model.specs.declared.entry.Entry.{Entry}
 use Rattle.cluster_model.specs.declared.entry.Entry.TheVariants as entry
 use Rattle.device_addr.specs.Universal.{AddressValue}
 use Rattle.mds_rule.specs.MdsStates.{MdsValue, new_mds}
-use Rattle.mds_laws.specs.MdsRuns.{MdsEvent, after_event, run_from, mds_run}
+use Rattle.mds_walk.specs.MdsRuns.{MdsEvent, after_event, run_from, mds_run}
 use Rattle.mds_laws.specs.OwnPeriods.{RunsOwnPeriods, FollowsTold, BeginsWithEnd}
 use Rattle.bound_worlds.specs.BoundWorlds.{BeginsOtherwise, EventsBeginOtherwise}
 

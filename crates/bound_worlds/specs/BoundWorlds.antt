@@ -8,7 +8,7 @@ use Rattle.cluster_laws.specs.FenceLaw.{new_servers}
 use Rattle.cluster_laws.specs.Holders.{AreBound}
 use Rattle.cluster_laws.specs.Telling.{telling}
 use Rattle.mds_rule.specs.MdsStates.{MdsSend, MdsValue}
-use Rattle.mds_laws.proofs.Lists.{AllOf}
+use Rattle.mds_walk.proofs.Lists.{AllOf}
 use Rattle.mds_forms.specs.Forms.{IsInForm}
 use Rattle.mds_moves.specs.MdsMoves.{IsMdsOf}
 use Rattle.mds_moves.specs.MdsBinds.{MdsHasOwnWrites}
@@ -17,7 +17,7 @@ use Rattle.cluster_model.specs.Server.{ServerState}
 use Rattle.cluster_model.specs.Event.{EventValue}
 use Rattle.cluster_laws.specs.Agreement.{AgreesAlways}
 use Rattle.device_addr.specs.Universal.{AddressValue}
-use Rattle.mds_laws.specs.MdsRuns.{MdsEvent, Ticks, after_event, mds_run}
+use Rattle.mds_walk.specs.MdsRuns.{MdsEvent, Ticks, after_event, mds_run}
 use Rattle.world_rule.specs.ClusterWorlds.{ClusterState, new_cluster, behind}
 use Rattle.holder_parts.specs.HolderParts.{EndsOwnNext, HoldersKeepParts}
 use Rattle.holder_parts.specs.HeldOwners.{DoHoldersOwn}

@@ -253,7 +253,7 @@ pub fn take_answer(
         MdsAnswer::Devices(addresses) => learn(client, addresses),
         MdsAnswer::Written => answer_head(client, UserAnswer::Written, out),
         MdsAnswer::Bytes { eof, bytes } => {
-            let bytes = Data::of(client.alloc, bytes)?;
+            let bytes = Data::to_share(client.alloc, bytes)?;
             answer_head(client, UserAnswer::Bytes { eof: *eof, bytes }, out)
         }
         MdsAnswer::Returned => end_return(client, out),

@@ -9,7 +9,7 @@ ghost use Rattle.client_answers.specs.AnswerSteps.{Splits, PutsEntries, TellsCov
 
 use client_state::{Layout, State, Untold};
 use cluster_model::{Entry, Outbox};
-use ff_xdr::{Data, NoMemory};
+use ff_xdr::NoMemory;
 use mds_calls::OpenFile;
 use mirror_writer::Writer;
 use std::alloc::Global;
@@ -47,7 +47,7 @@ fn tell(
     let Some((at, bytes)) = writer.write_numbered(number) else {
         return Ok(());
     };
-    let bytes = Data::of(alloc, bytes)?;
+    let bytes = bytes.data().share(alloc)?;
     out.entries.push(Entry::Told {
         file: file.file,
         cred: writer.cred(),

@@ -46,7 +46,7 @@ fn failed_mirrors(alloc: Global, layout: &Layout) -> Result<Vec<FailedMirror>, N
     Ok(failed)
 }
 
-/// The record of a call, under the next number.
+/// The record of a call, under the next number. It may be shared.
 fn spell(client: &State, call: &MdsCall<'_>) -> Result<Option<Data>, NoMemory>
     requires { FitsCompound (plain_mds_call call.now) }
     ensures { IfOk result (λ message. message ≡ spelled client.now (Some (plain_mds_call call.now))) }
@@ -59,7 +59,7 @@ fn spell(client: &State, call: &MdsCall<'_>) -> Result<Option<Data>, NoMemory>
         call,
         &mut out,
     )?;
-    Ok(Some(Data::from_vec(out.into_bytes())))
+    Ok(Some(Data::to_share(client.alloc, out.bytes())?))
 }
 
 /// The record of a request on slot 0 of the session.
@@ -260,7 +260,7 @@ fn begin_ask(client: &mut State, ask: MdsAsk, message: &Data) -> Result<(), NoMe
     client.asked = Some(Asked {
         xid: client.next_xid,
         ask,
-        message: Data::of(client.alloc, message.bytes())?,
+        message: message.share(client.alloc)?,
         is_late: false,
     });
     client.again = None;

@@ -12,7 +12,7 @@ use crate::request::UserRequest;
 use crate::state::State;
 use crate::tie::Tie;
 use cluster_model::{Entry, MAX_FILE, Outbox, UserAnswer};
-use ff_xdr::{Data, NoMemory};
+use ff_xdr::NoMemory;
 use mds_calls::{MdsAsk, OpenFile};
 use mirror_writer::{WriteBytes, WriteStart};
 
@@ -60,7 +60,7 @@ impl State {
         let Some(layout) = &mut self.layout else {
             return Ok(JudgedHead::Waits);
         };
-        match layout.take(at, bytes.bytes()) {
+        match layout.take(at, bytes) {
             WriteStart::Taken => {}
             WriteStart::Overlap => {
                 layout.end();
@@ -69,7 +69,7 @@ impl State {
             WriteStart::NoMemory => return Err(NoMemory),
         }
         let cred = layout.writer.cred();
-        let bytes = Data::of(self.alloc, bytes.bytes())?;
+        let bytes = bytes.data().share(self.alloc)?;
         out.entries.push(Entry::Sent {
             file: file.file,
             cred,

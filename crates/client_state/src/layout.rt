@@ -1,14 +1,14 @@
 //! A layout, and the writes under it.
 
 ghost use Rattle.std.specs.Prelude.{◌≡◌, ◌≤◌, ◌+◌, length};
-ghost use Rattle.cluster_model.specs.declared.limits.TheConstants.{MAX_FILE, PIECE_SIZE};
+ghost use Rattle.cluster_model.specs.declared.limits.TheConstants.{MAX_FILE};
 ghost use Rattle.client_state.specs.ClientQueue.{ending};
 ghost use Rattle.client_state.specs.QueueSteps.{TakesUnder};
 
 use crate::stage::LayoutStage;
 use crate::untold::Untold;
 use cluster_model::Mirrors;
-use mirror_writer::{WriteStart, Writer};
+use mirror_writer::{WriteBytes, WriteStart, Writer};
 use nfs4_types::Stateid;
 
 /// A layout that was granted (RFC 8881, section 12.2).
@@ -44,11 +44,9 @@ impl Layout {
         }
     }
 
-    /// Takes a write of 1 to 65,536 bytes that ends at 67,108,864 or before, unless a taken write has one of its
-    /// places. It is to be told. After `NoMemory` nothing is said.
-    pub fn take(&mut self, at: u64, bytes: &[u8]) -> WriteStart
-        requires some { 1 ≤ length bytes.now }
-        requires few { length bytes.now ≤ PIECE_SIZE }
+    /// Takes a write that ends at 67,108,864 or before, unless a taken write has one of its places. It is to be told.
+    /// After `NoMemory` nothing is said.
+    pub fn take(&mut self, at: u64, bytes: &WriteBytes) -> WriteStart
         requires within { at + length bytes.now ≤ MAX_FILE }
         ensures { TakesUnder self.old at bytes.now result self.new }
     {

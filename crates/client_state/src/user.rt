@@ -6,7 +6,7 @@ ghost use Rattle.client_state.specs.QueueSteps.{HasRun};
 
 use crate::state::State;
 use cluster_model::{Entry, FailCause, Outbox, UserAnswer};
-use ff_xdr::{Data, NoMemory};
+use ff_xdr::NoMemory;
 use std::alloc::Global;
 
 /// The same answer once more, for the journal.
@@ -18,7 +18,7 @@ fn copy_of(alloc: Global, answer: &UserAnswer) -> Result<UserAnswer, NoMemory>
         UserAnswer::Written => Ok(UserAnswer::Written),
         UserAnswer::Committed { writes } => Ok(UserAnswer::Committed { writes: *writes }),
         UserAnswer::Bytes { eof, bytes } => {
-            let bytes = Data::of(alloc, bytes.bytes())?;
+            let bytes = bytes.share(alloc)?;
             Ok(UserAnswer::Bytes { eof: *eof, bytes })
         }
         UserAnswer::Returned => Ok(UserAnswer::Returned),

@@ -16,7 +16,7 @@ use Rattle.cluster_model.specs.File.{StoredFile}
 use Rattle.cluster_model.specs.Server.{ServerState}
 use Rattle.cluster_model.specs.DsCalls.{DsCallValue, Create, SetAttr, Read}
 use Rattle.cluster_model.specs.Fences.{FenceState, waits, with_stage, with_mirror, fence_call_at, call_from, waiting_at}
-use Rattle.copy_rule.specs.Copies.{CopyState, CopyCall, is_given_up, at_stage, with_target, with_read, have_answered, target_call, target_caller, target_call_at, waiting_at as copy_waiting, call_from as copy_call_from}
+use Rattle.copy_rule.specs.Copies.{CopyState, CopyCall, is_given_up, at_stage, with_target, with_read, may_read_on, target_call, target_caller, target_call_at, waiting_at as copy_waiting, call_from as copy_call_from}
 use Rattle.copy_rule.specs.declared.copy_target.CopyTarget.{CopyTarget}
 use Rattle.cluster_model.specs.declared.limits.TheConstants.{PIECE_SIZE}
 use Rattle.file_rule.specs.MdsFiles.{Creations, Activity, Idle, Makes, Fences, Settles, Copies, MdsFile, in_stage, with_creation}
@@ -222,7 +222,7 @@ module _ (net : Net) (n xid : ℕ) (journal : List Entry) (same : AllFollow net.
   by_target : (s : LayoutState) (c : CopyState) → IsFile net journal n (record { layout = s; activity = Copies c }) → (got : Option ℕ) → copy_waiting c ≡ got → (x : CallOut)
       → copy_out (record { layout = s; activity = Copies c }) (copy_call_from c xid got) ≡ Some x → GoesOut x
   by_target s c h None at x is =
-      cond_both (waits c.read && have_answered c) (Some (record { copy = with_read c (Out xid 0); server = c.source.server; uid = 0; call = Read c.source.fileid c.at PIECE_SIZE })) None
+      cond_both (waits c.read && may_read_on c) (Some (record { copy = with_read c (Out xid 0); server = c.source.server; uid = 0; call = Read c.source.fileid c.at PIECE_SIZE })) None
       (λ (o : Option CopyCall). copy_out (record { layout = s; activity = Copies c }) o ≡ Some x → GoesOut x) (λ e same_call. subst GoesOut (same_Some _ x same_call) (reads s c h)) (λ e none. absurd cc) is
   by_target s c h (Some place) at x is =
       let found = found_at (λ t. waits t.stage) c.targets place at in

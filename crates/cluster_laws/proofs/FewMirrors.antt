@@ -120,7 +120,7 @@ replacing_adds : (k : ℕ) (live : List Mirror) → adds (map to_make (replacing
 replacing_adds k [] = refl
 replacing_adds k (m ∷ live) = let rest = replacing_adds (k + 1) live in omega (arith, rest)
 
-replacing_size : (k : ℕ) (live : List Mirror) → length (replacing k live) ≡ length live
+pub replacing_size : (k : ℕ) (live : List Mirror) → length (replacing k live) ≡ length live
 replacing_size k [] = refl
 replacing_size k (m ∷ live) = let rest = replacing_size (k + 1) live in omega (arith, rest)
 
@@ -128,7 +128,7 @@ adding_adds : (k : ℕ) (servers : List ℕ) → adds (map to_make (adding k ser
 adding_adds k [] = refl
 adding_adds k (n ∷ servers) = let rest = adding_adds (k + 1) servers in omega (arith, rest)
 
-adding_size : (k : ℕ) (servers : List ℕ) → length (adding k servers) ≡ length servers
+pub adding_size : (k : ℕ) (servers : List ℕ) → length (adding k servers) ≡ length servers
 adding_size k [] = refl
 adding_size k (n ∷ servers) = let rest = adding_size (k + 1) servers in omega (arith, rest)
 

@@ -54,4 +54,7 @@ pub mod Plans
 pub mod FewMirrors
 pub mod FewSteps
 pub mod FewRuns
+pub mod GoingPlans
+pub mod GoingSteps
+pub mod GoingRuns
 pub mod RangeCalls

@@ -18,7 +18,7 @@ use Rattle.cluster_model.specs.Mirrors.{are_on_different_servers}
 use Rattle.cluster_model.specs.DsCalls.{DsReplyValue, Read}
 use Rattle.cluster_model.specs.Fences.{is_out, waits, FenceState, fence_call_at, call_from, waiting_at, outstanding_at, on_reply, on_timeout}
 use Rattle.cluster_model.specs.Phases.{with_live, seen_at}
-use Rattle.copy_rule.specs.Copies.{CopyState, CopyCall, with_read, have_answered, target_call_at, waiting_at as copy_waiting, call_from as copy_call_from, on_reply as copy_reply, on_timeout as copy_timeout}
+use Rattle.copy_rule.specs.Copies.{CopyState, CopyCall, with_read, may_read_on, target_call_at, waiting_at as copy_waiting, call_from as copy_call_from, on_reply as copy_reply, on_timeout as copy_timeout}
 use Rattle.copy_rule.specs.declared.copy_target.CopyTarget.{CopyTarget}
 use Rattle.cluster_model.specs.declared.limits.TheConstants.{PIECE_SIZE}
 use Rattle.file_rule.specs.MdsFiles.{Creations, Activity, Idle, Makes, Fences, Settles, Copies, MdsFile, FileStep, nothing, in_stage, shown_by_set, seen_by, mirror_at, creation_of, creation_answered, creation_timed_out, shown_by_commit, seen_at_source, settling_answered, settling_timed_out}
@@ -149,7 +149,7 @@ module _ (whose : ℕ → ℕ) (n next_uid xid : ℕ) (journal : List Entry) (s 
 
   copy_period : (d : CopyState) → IsPeriod whose next_uid journal n (record { layout = s; activity = Copies d }) → (got : Option ℕ) → copy_waiting d ≡ got → (c : CallOut) → copy_out (record { layout = s; activity = Copies d }) (copy_call_from d xid got) ≡ Some c → Still c
   copy_period d p None at c is =
-      cond_both (waits d.read && have_answered d) (Some (record { copy = with_read d (Out xid 0); server = d.source.server; uid = 0; call = Read d.source.fileid d.at PIECE_SIZE })) None
+      cond_both (waits d.read && may_read_on d) (Some (record { copy = with_read d (Out xid 0); server = d.source.server; uid = 0; call = Read d.source.fileid d.at PIECE_SIZE })) None
       (λ (o : Option CopyCall). copy_out (record { layout = s; activity = Copies d }) o ≡ Some c → Still c) (λ e same_call. subst Still (same_Some _ c same_call) (record { mine = p.mine; active = p.active })) (λ e none. absurd cc) is
   copy_period d p (Some place) at c is =
       let t = found_at (λ (y : CopyTarget). waits y.stage) d.targets place at in

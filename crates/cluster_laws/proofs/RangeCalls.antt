@@ -16,7 +16,7 @@ use Rattle.cluster_model.specs.DsCalls.{Read, mirror_name}
 use Rattle.cluster_model.specs.Fences.{FenceState, waits}
 use Rattle.cluster_model.specs.Fences as fence
 use Rattle.copy_rule.specs.declared.copy_target.CopyTarget.{CopyTarget}
-use Rattle.copy_rule.specs.Copies.{CopyState, CopyCall, at_stage, with_target, with_read, have_answered, target_call, target_caller, waiting_at, target_call_at, call_from}
+use Rattle.copy_rule.specs.Copies.{CopyState, CopyCall, at_stage, with_target, with_read, may_read_on, target_call, target_caller, waiting_at, target_call_at, call_from}
 use Rattle.file_rule.specs.declared.creation.Creation.{Creation}
 use Rattle.file_rule.specs.MdsFiles.{Creations, Activity, Idle, Makes, Fences, Settles, Copies, MdsFile}
 use Rattle.file_rule.specs.FilePhases.{end_of_uids, CallOut, creation_waiting, create_out_at, create_out, fence_out, settle_out, copy_out, call_out_of}
@@ -131,7 +131,7 @@ module _ (m : Machine) (journal : List Entry) (d : Drawn) (h : Holds m journal d
 
       copy_fits : (xid : ℕ) (o : Option ℕ) → CopyFits (call_from c xid o)
       copy_fits xid None =
-          cond_both (waits c.read && have_answered c) (Some (record { copy = with_read c (Out xid 0); server = c.source.server; uid = 0; call = Read c.source.fileid c.at PIECE_SIZE })) None CopyFits
+          cond_both (waits c.read && may_read_on c) (Some (record { copy = with_read c (Out xid 0); server = c.source.server; uid = 0; call = Read c.source.fileid c.at PIECE_SIZE })) None CopyFits
           (λ e. record { call = (source_fits c.source f.busy.source, at_fits, omega arith); uid = omega arith; some = omega arith }) (λ e. tt)
       copy_fits xid (Some place) = target_at_fits xid place (slice_get c.targets place) refl
 

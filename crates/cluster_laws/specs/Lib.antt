@@ -9,4 +9,5 @@ pub mod BadJournals
 pub mod Holders
 pub mod Keeping
 pub mod RunBounds
+pub mod GoingCopies
 pub mod CallRanges

@@ -8,6 +8,7 @@ ghost use Rattle.cluster_model.specs.declared.entry.Entry.{Entry as JournalEntry
 ghost use Rattle.cluster_laws.specs.Machine.{Move};
 ghost use Rattle.cluster_laws.specs.FenceLaw.{FenceLaw};
 ghost use Rattle.cluster_laws.specs.RunBounds.{StepsDrawFew, UidsEnd};
+ghost use Rattle.cluster_laws.specs.GoingCopies.{CopiesGoOn};
 ghost use Rattle.cluster_laws.specs.CallRanges.{CallsInRange, MirrorsInRange};
 ghost use Rattle.cluster_laws.specs.Periods.{EachPeriodIsFenced, OwnersStay, TellsTheTruth};
 ghost use Rattle.cluster_laws.specs.Telling.{SaysTheSame, MakesTelling};
@@ -48,6 +49,13 @@ pub fn run_laws()
 pub fn run_bounds()
     ensures draws { (boots : List ℕ) (moves : List Move) → StepsDrawFew boots moves }
     ensures uids { (boots : List ℕ) (moves : List Move) → UidsEnd boots moves }
+{}
+
+/// In every run a copy that a file has under way has no outcome yet: a step that brings it one ends it. So no file waits for
+/// a copy that has no call left. A copy has a target from the first, since a file wants no more mirrors than there are
+/// data servers.
+pub fn copies_go_on()
+    ensures { (boots : List ℕ) (moves : List Move) → CopiesGoOn boots moves }
 {}
 
 /// The calls of a run fit their fields, where the numbers of its data servers do: each call that can go out has numbers in

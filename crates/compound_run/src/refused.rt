@@ -9,6 +9,7 @@ ghost use Rattle.compound_run.specs.CompoundRuns.{Where};
 
 use nfs4_compound::OpRes;
 use nfs4_compound::nfs4_file_ops::{GetDeviceInfoRes, LayoutGetRes};
+use nfs4_compound::nfs4_unserved_ops::UnservedRes;
 use nfs4_types::{OpResult, Stat4};
 
 /// The operation with this number is refused by this status, which is not OK (RFC 8881, section 16.2.3).
@@ -41,6 +42,6 @@ pub fn refusal(number: u32, status: Stat4) -> OpRes<'static>
         53 => OpRes::Sequence(OpResult::Refused(status)),
         57 => OpRes::DestroyClientId(OpResult::Refused(status)),
         58 => OpRes::ReclaimComplete(OpResult::Refused(status)),
-        _ => OpRes::Unbuilt(number, status),
+        _ => OpRes::Unserved(UnservedRes::refused(number, status)),
     }
 }

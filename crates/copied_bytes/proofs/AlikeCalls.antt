@@ -14,7 +14,7 @@ use Rattle.cluster_model.specs.declared.call_stage.CallStage.{CallStage}
 use Rattle.cluster_model.specs.declared.call_stage.CallStage.TheVariants.{Out}
 use Rattle.cluster_model.specs.declared.fence_mirror.FenceMirror.{FenceMirror}
 use Rattle.cluster_model.specs.Fences.{FenceState, waits, fence_call_at, call_from, waiting_at}
-use Rattle.copy_rule.specs.Copies.{CopyState, CopyCall, with_read, with_target, at_stage, have_answered, target_call_at, waiting_at as copy_waiting, call_from as copy_call_from}
+use Rattle.copy_rule.specs.Copies.{CopyState, CopyCall, with_read, with_target, at_stage, may_read_on, target_call_at, waiting_at as copy_waiting, call_from as copy_call_from}
 use Rattle.copy_rule.specs.declared.copy_target.CopyTarget.{CopyTarget}
 use Rattle.file_rule.specs.MdsFiles.{Creations, Activity, Idle, Makes, Fences, Settles, Copies, MdsFile}
 use Rattle.file_rule.specs.declared.creation.Creation.{Creation}
@@ -61,7 +61,7 @@ module _ (t : Story) (uid : ℕ) (journal : List Entry) (n xid : ℕ) (s : Layou
 
   copying : (c : CopyState) → At (Copies c) → (found : Option ℕ) → IfCall Goes (copy_out (record { layout = s; activity = Copies c }) (copy_call_from c xid found))
   copying c h None =
-      cond_both (waits c.read && have_answered c) (Some (record { copy = with_read c (Out xid 0); server = c.source.server; uid = 0; call = Read c.source.fileid c.at PIECE_SIZE })) None (λ (o : Option CopyCall). IfCall Goes (copy_out (record { layout = s; activity = Copies c }) o))
+      cond_both (waits c.read && may_read_on c) (Some (record { copy = with_read c (Out xid 0); server = c.source.server; uid = 0; call = Read c.source.fileid c.at PIECE_SIZE })) None (λ (o : Option CopyCall). IfCall Goes (copy_out (record { layout = s; activity = Copies c }) o))
       (λ e. act_on (Copies c) (Copies (with_read c (Out xid 0))) (λ r. r) h) (λ e. tt)
   copying c h (Some place) = at_place (slice_get c.targets place) refl
     where

@@ -18,7 +18,7 @@ use Rattle.cluster_model.specs.Journal.{Copy, copy_after, content_of}
 use Rattle.cluster_model.specs.DsCalls.{DsCallValue, Create, SetAttr, Write, Commit, Read, DsReplyValue, mirror_name}
 use Rattle.cluster_model.specs.Fences.{FenceState, waits, fence_call_at, call_from, waiting_at}
 use Rattle.cluster_model.specs.Phases.{ids_of}
-use Rattle.copy_rule.specs.Copies.{CopyState, CopyCall, with_read, with_target, at_stage, have_answered, target_call, target_caller, target_call_at, waiting_at as copy_waiting, call_from as copy_call_from}
+use Rattle.copy_rule.specs.Copies.{CopyState, CopyCall, with_read, with_target, at_stage, may_read_on, target_call, target_caller, target_call_at, waiting_at as copy_waiting, call_from as copy_call_from}
 use Rattle.copy_rule.specs.declared.copy_target.CopyTarget.{CopyTarget}
 use Rattle.file_rule.specs.MdsFiles.{Creations, Activity, Idle, Makes, Fences, Settles, Copies, MdsFile}
 use Rattle.file_rule.specs.declared.creation.Creation.{Creation}
@@ -185,7 +185,7 @@ module _ (t : Story) (m : Machine) (journal : List Entry) (at : IsMoment t m jou
     copying c h None =
         let call : DsCallValue = Read c.source.fileid c.at PIECE_SIZE in
         let put : List PacketValue = m.packets ++ Call Mds c.source.server xid 0 0 call ∷ [] in
-        cond_both (waits c.read && have_answered c) (Some (record { copy = with_read c (Out xid 0); server = c.source.server; uid = 0; call = call })) None (λ (o : Option CopyCall). IfCall Known (copy_out (record { layout = s; activity = Copies c }) o))
+        cond_both (waits c.read && may_read_on c) (Some (record { copy = with_read c (Out xid 0); server = c.source.server; uid = 0; call = call })) None (λ (o : Option CopyCall). IfCall Known (copy_out (record { layout = s; activity = Copies c }) o))
         (λ e.
         let k = h put (goes (record { file = record { layout = s; activity = Copies c }; server = c.source.server; uid = 0; call = call })) in (
           tt,

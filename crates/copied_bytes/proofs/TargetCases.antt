@@ -18,7 +18,8 @@ use Rattle.cluster_model.specs.declared.layout_state.LayoutState.{LayoutState}
 use Rattle.cluster_model.specs.declared.limits.TheConstants.{PIECE_SIZE}
 use Rattle.cluster_model.specs.Journal.{Copy, copy_after, content_of}
 use Rattle.cluster_model.specs.Phases.{ids_of}
-use Rattle.copy_rule.specs.Copies.{CopyState, CopyCall, with_read, with_target, at_stage, have_answered, target_call, target_caller, target_call_at, waiting_at as copy_waiting, call_from as copy_call_from}
+use Rattle.copy_rule.specs.Copies.{CopyState, CopyCall, with_read, with_target, at_stage, have_answered, may_read_on, target_call, target_caller, target_call_at, waiting_at as copy_waiting, call_from as copy_call_from}
+use Rattle.copy_rule.proofs.ReadOn.{answered_of}
 use Rattle.copy_rule.specs.declared.copy_target.CopyTarget.{CopyTarget}
 use Rattle.file_rule.specs.MdsFiles.{Creations, Activity, Idle, Makes, Fences, Settles, Copies, MdsFile}
 use Rattle.file_rule.specs.declared.creation.Creation.{Creation}
@@ -237,10 +238,10 @@ module _ (t : Story) (m : Machine) (journal : List Entry) (at : IsMoment t m jou
     copying_call c file busy h None is =
         let call : DsCallValue = Read c.source.fileid c.at PIECE_SIZE in
         let put : List PacketValue = m.packets ++ Call Mds c.source.server xid 0 0 call ∷ [] in
-        cond_both (waits c.read && have_answered c) (Some (record { copy = with_read c (Out xid 0); server = c.source.server; uid = 0; call = call })) None (λ (o : Option CopyCall). IfCall Goes (copy_out (record { layout = s; activity = Copies c }) o))
+        cond_both (waits c.read && may_read_on c) (Some (record { copy = with_read c (Out xid 0); server = c.source.server; uid = 0; call = call })) None (λ (o : Option CopyCall). IfCall Goes (copy_out (record { layout = s; activity = Copies c }) o))
         (λ e.
-        let parts = and_parts (waits c.read) (have_answered c) e in
-        (λ bytes less. tt, read_then put c parts.0 parts.1 (packed_by put xid (outs_call (record { file = record { layout = s; activity = Copies c }; server = c.source.server; uid = 0; call = call })) n (Copies c) h))) (λ e. tt)
+        let parts = and_parts (waits c.read) (may_read_on c) e in
+        (λ bytes less. tt, read_then put c parts.0 (answered_of c parts.1) (packed_by put xid (outs_call (record { file = record { layout = s; activity = Copies c }; server = c.source.server; uid = 0; call = call })) n (Copies c) h))) (λ e. tt)
     copying_call c file busy h (Some place) is =
         let found = found_at (λ (y : CopyTarget). waits y.stage) c.targets place is in
         let x = found.0 in

@@ -16,7 +16,7 @@ use Rattle.cluster_model.specs.declared.layout_state.LayoutState.{LayoutState}
 use Rattle.cluster_model.specs.declared.limits.TheConstants.{PIECE_SIZE}
 use Rattle.cluster_model.specs.DsCalls.{Read}
 use Rattle.cluster_model.specs.Fences.{FenceState, waits, fence_call_at, call_from, waiting_at}
-use Rattle.copy_rule.specs.Copies.{CopyState, CopyCall, with_read, have_answered, target_call, target_caller, target_call_at, waiting_at as copy_waiting, call_from as copy_call_from}
+use Rattle.copy_rule.specs.Copies.{CopyState, CopyCall, with_read, may_read_on, target_call, target_caller, target_call_at, waiting_at as copy_waiting, call_from as copy_call_from}
 use Rattle.copy_rule.specs.declared.copy_target.CopyTarget.{CopyTarget}
 use Rattle.file_rule.specs.MdsFiles.{Creations, Activity, Idle, Makes, Fences, Settles, Copies, FileStep}
 use Rattle.file_rule.specs.declared.creation.Creation.{Creation}
@@ -125,7 +125,7 @@ module _ (t : Story) (uid : ℕ) (journal : List Entry) (n xid : ℕ) (s : Layou
 
   copying_out : (c : CopyState) → HasUids t uid n s (Copies c) → (found : Option ℕ) → IfCall GoesOut (copy_out (record { layout = s; activity = Copies c }) (copy_call_from c xid found))
   copying_out c h None =
-      cond_both (waits c.read && have_answered c) (Some (record { copy = with_read c (Out xid 0); server = c.source.server; uid = 0; call = Read c.source.fileid c.at PIECE_SIZE })) None
+      cond_both (waits c.read && may_read_on c) (Some (record { copy = with_read c (Out xid 0); server = c.source.server; uid = 0; call = Read c.source.fileid c.at PIECE_SIZE })) None
       (λ (o : Option CopyCall). IfCall GoesOut (copy_out (record { layout = s; activity = Copies c }) o)) (λ e. (tt, h)) (λ e. tt)
   copying_out c h (Some place) = at_place (slice_get c.targets place)
     where

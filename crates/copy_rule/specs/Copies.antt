@@ -145,6 +145,10 @@ is_none_left c = list_all (λ t. is_given_up t.stage) c.targets
 abbrev pub has_outcome : CopyState → Bool
 has_outcome c = is_none_left c || (c.ended && have_answered c)
 
+-- every target that is left has answered, and the copy has no outcome
+abbrev pub may_read_on : CopyState → Bool
+may_read_on c = have_answered c && not (has_outcome c)
+
 -- The next piece is read when every target that is left has answered the one before.
 abbrev pub goes_on : CopyState → CopyState
 goes_on c = if is_over c.read && not c.ended && have_answered c then with_next c else c
@@ -267,10 +271,13 @@ target_call_at c xid place (Some t) = Some (record {
   call = target_call c.copier c.at c.piece t.name t.made;
 })
 
--- the source is read once all targets are made, and again once all have answered
+-- The source is read once all targets are made, and again once all have answered, unless the copy has an outcome.
+abbrev pub is_read_due : CopyState → Bool
+is_read_due c = waits c.read && may_read_on c
+
 abbrev pub read_call : CopyState → ℕ → Option CopyCall
 read_call c xid =
-    if waits c.read && have_answered c
+    if is_read_due c
     then Some (record { copy = with_read c (Out xid 0); server = c.source.server; uid = 0; call = Read c.source.fileid c.at PIECE_SIZE })
     else None
 

@@ -87,18 +87,18 @@ two_pieces_shown = record {
 
 -- ---- targets that fail
 
--- One is not made, and a WRITE to the other is refused: none is left, before the source said that it ends.
+-- One is not made, and a WRITE to the other is refused: none is left, before the source said that it ends, and nothing goes out then.
 abbrev pub none_left : Worked
 none_left =
     worked two_targets
     (Calls 1 ∷ Calls 2 ∷ Waits 1 ∷ Waits 1 ∷ Replies 2 (Created 6 (showing 11)) ∷ Calls 3 ∷ Waits 1 ∷ Replies 1 (Created 5 (showing 1)) ∷ Calls 3 ∷ Replies 3 (Bytes None false (65 ∷ []))
-    ∷ Calls 4 ∷ Replies 4 (Failed 28 None) ∷ [])
+    ∷ Calls 4 ∷ Replies 4 (Failed 28 None) ∷ Calls 5 ∷ [])
 
 abbrev pub none_left_shown : Worked
 none_left_shown = record {
   shows =
       Goes 2 0 (Create 8 70000) ∷ Goes 3 0 (Create 9 70000) ∷ Comes Waiting ∷ Comes Waiting ∷ Comes Waiting ∷ Nothing ∷ Comes (TargetFailed 2 (Some (at_server 2 2)) Timeouts) ∷ Comes Stranger
-      ∷ Goes 1 0 (Read 2 0 65536) ∷ Comes Waiting ∷ Goes 3 70000 (Write 6 0 true (65 ∷ [])) ∷ Comes (TargetFailed 3 None (Error 28)) ∷ [];
+      ∷ Goes 1 0 (Read 2 0 65536) ∷ Comes Waiting ∷ Goes 3 70000 (Write 6 0 true (65 ∷ [])) ∷ Comes (TargetFailed 3 None (Error 28)) ∷ Nothing ∷ [];
   outcome = Some [];
 }
 

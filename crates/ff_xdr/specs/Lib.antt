@@ -10,3 +10,4 @@ pub mod Proper
 pub mod Arms
 pub mod WholeArms
 pub mod Exact
+pub mod Stores

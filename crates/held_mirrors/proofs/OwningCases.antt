@@ -221,7 +221,7 @@ module _ (t : Story) (m : Machine) (journal : List Entry) (at : IsMoment t m jou
 
     copying_goes : (c : CopyState) (found : Option ℕ) → IfCall Goes (copy_out (record { layout = f.layout; activity = Copies c }) (copy.call_from c xid found))
     copying_goes c None =
-        cond_both (waits c.read && copy.have_answered c) (Some (record { copy = copy.with_read c _; server = c.source.server; uid = 0; call = Read c.source.fileid c.at _ })) None
+        cond_both (waits c.read && copy.may_read_on c) (Some (record { copy = copy.with_read c _; server = c.source.server; uid = 0; call = Read c.source.fileid c.at _ })) None
         (λ (o : Option CopyCall). IfCall Goes (copy_out (record { layout = f.layout; activity = Copies c }) o)) (λ e. tt) (λ e. tt)
     copying_goes c (Some place) = at_one (slice_get c.targets place)
       where

@@ -16,7 +16,7 @@ use Rattle.cluster_model.specs.Fences.{waits, is_out, is_over, odd_status}
 use Rattle.copy_rule.specs.declared.copy_target.CopyTarget.{CopyTarget}
 use Rattle.copy_rule.specs.declared.copy_target.CopyStep.{CopyStep}
 use Rattle.copy_rule.specs.declared.copy_target.CopyStep.TheVariants.{Stranger, Waiting, SourceFailed, TargetFailed, Done as AllHold}
-use Rattle.copy_rule.specs.Copies.{CopyState, CopyCall, CopyAfter, TargetStep, with_target, with_read, with_piece, with_next, goes_on, have_answered, has_outcome, step_told, copy_then, stranger, source_fails, is_long, read_answered, read_late, target_of, stepped, step_at, step_from, by_read, on_reply, on_timeout, target_answered, target_late, at_stage, target_call_at, call_from, waiting_at, next_call}
+use Rattle.copy_rule.specs.Copies.{CopyState, CopyCall, CopyAfter, TargetStep, with_target, with_read, with_piece, with_next, goes_on, have_answered, may_read_on, has_outcome, step_told, copy_then, stranger, source_fails, is_long, read_answered, read_late, target_of, stepped, step_at, step_from, by_read, on_reply, on_timeout, target_answered, target_late, at_stage, target_call_at, call_from, waiting_at, next_call}
 use Rattle.std.specs.Prelude.{Result, Ok, Err, IfOk}
 use Rattle.ff_xdr.specs.declared.error.NoMemory.{NoMemory}
 use Rattle.cluster_model.specs.declared.ids.Cred.{Cred}
@@ -152,7 +152,7 @@ module _ (live : List Mirror) where
       by_test false is = absurd (none-some call is)
 
       by_place : (o : Option ℕ) → waiting_at c ≡ o → call_from c xid o ≡ Some call → CanAllComeIn live call.copy.targets
-      by_place None found is = by_test (waits c.read && have_answered c) is
+      by_place None found is = by_test (waits c.read && may_read_on c) is
       by_place (Some place) found is = by_target place (slice_get c.targets place) found refl is
 
 -- what holds of a file's copy behind a step of it

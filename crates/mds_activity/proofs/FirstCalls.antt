@@ -10,7 +10,7 @@ use Rattle.cluster_model.specs.declared.limits.TheConstants.{PIECE_SIZE}
 use Rattle.cluster_model.specs.DsCalls.{Read}
 use Rattle.cluster_model.specs.Fences.{FenceState, waits, waiting_at, call_from, fence_call_at}
 use Rattle.copy_rule.specs.declared.copy_target.CopyTarget.{CopyTarget}
-use Rattle.copy_rule.specs.Copies.{CopyState, CopyCall, have_answered, with_read, target_call_at}
+use Rattle.copy_rule.specs.Copies.{CopyState, CopyCall, may_read_on, with_read, target_call_at}
 use Rattle.copy_rule.specs.Copies as copy
 use Rattle.file_rule.specs.declared.creation.Creation.{Creation}
 use Rattle.file_rule.specs.MdsFiles.{Creations, Activity, Idle, Makes, Fences, Settles, Copies, MdsFile}
@@ -65,7 +65,7 @@ sets_first f fence xid (Some place) servers (x, rest, there, is) =
     subst (λ (o : Option FenceMirror). GoesFirst (fence_out f (fence_call_at fence xid place o)) servers) (sym there) (subst (GoesFirst (fence_out f (fence_call_at fence xid place (Some x)))) (sym is) refl)
 
 copies_first : (f : MdsFile) (c : CopyState) (xid : ℕ) (o : Option ℕ) → FoundFirst (λ (t : CopyTarget). t.server) c.targets o (map (λ (t : CopyTarget). t.server) (filter (λ (t : CopyTarget). waits t.stage) c.targets)) → GoesFirst (copy_out f (copy.call_from c xid o)) (servers_from c o)
-copies_first f c xid None found = by_test (waits c.read && have_answered c)
+copies_first f c xid None found = by_test (waits c.read && may_read_on c)
   where
     by_test : (b : Bool) → GoesFirst (copy_out f (cond {A = Option CopyCall} b (Some (record { copy = with_read c (Out xid 0); server = c.source.server; uid = 0; call = Read c.source.fileid c.at PIECE_SIZE })) None)) (cond b (c.source.server ∷ []) [])
     by_test true = refl

@@ -1,5 +1,6 @@
 -- A compound that is to be run has at most 16 operations, and a tag of at most 1,024 bytes.
-use Rattle.std.proofs.Common.{◌≡◌, ℕ, zero, suc, ◌≤◌, not, cond, eqb, ltb, List, [], ◌∷◌, length, Option, Some, None, Result, Ok, Err, refl, sym, ap, subst, ◌∙◌, arith}
+use Rattle.std.proofs.Common.{◌≡◌, ℕ, zero, suc, ◌≤◌, not, cond, eqb, ltb, List, [], ◌∷◌, length, Option, Some, None, Result, Ok, Err, refl, sym, ap, subst, ◌∙◌, arith, inl, inr}
+use Rattle.std.specs.Prelude.{◌⊎◌}
 use Rattle.std.proofs.lemmas.Bool.{cond_both, ltb-false}
 use Rattle.ff_xdr.specs.declared.error.XdrError.{XdrError}
 use Rattle.ff_xdr.specs.Form.{Form, Value}
@@ -10,7 +11,11 @@ use Rattle.rpc_record.specs.declared.call.CallFault.TheVariants.{NotACall, RpcVe
 use Rattle.rpc_record.specs.Calls.{RpcCall, call_at}
 use Rattle.rpc_record.specs.Replies.{RpcReply, reply_at, prog_unavail, prog_mismatch, proc_unavail}
 use Rattle.nfs4_types.specs.declared.status.Stat4.TheVariants as stat
+use Rattle.nfs4_unserved_ops.specs.Args.{unserved_argop4}
+use Rattle.nfs4_compound.specs.declared.stop.Stop.{Stop}
 use Rattle.nfs4_compound.specs.Args.{argop4}
+use Rattle.nfs4_compound.specs.Joined.{side_of}
+use Rattle.nfs4_compound.specs.AllOps.{nfs_argop4, served_first, served_of}
 use Rattle.nfs4_compound.specs.Compounds.{CompoundValue, compound_head, compound_of, compound_at}
 use Rattle.nfs4_compound.specs.Operations.{with_first, stop_at, operations, rest_of_stop}
 use Rattle.mds_receive.specs.MdsReceive.{IncomingValue, PassedOver, IsReply, IsAnswered, IsCompound, refuses, refuses_compound, walked, counted, with_head, asks_null, asked, dispatched, of_reply, with_call, incoming_of}
@@ -29,8 +34,20 @@ few_values form (suc n) bytes at = by_first (reading form bytes at) (few_values 
     by_first (Ok v) rest = let few = rest v.1 in omega (arith, few)
     by_first (Err e) rest = omega arith
 
+-- those that are carried out are no more than all
+few_served : (ops : List (Value nfs_argop4)) (s : Stop) → length (served_of ops s).values ≤ length ops
+few_served [] s = omega arith
+few_served (op ∷ ops) s = by_side (side_of argop4 unserved_argop4 op) (few_served ops s)
+  where
+    by_side : (side : Value argop4 ⊎ Value unserved_argop4) → length (served_of ops s).values ≤ length ops → length (served_first side (served_of ops s)).values ≤ suc (length ops)
+    by_side (inl v) rest = omega (arith, rest)
+    by_side (inr w) rest = omega arith
+
 of_head : (args : List ℕ) (head : Value compound_head × ℕ) → length (compound_of args head).ops.values ≤ (compound_of args head).count
-of_head args ((tag, (minorversion, count)), at) = few_values argop4 count args at
+of_head args ((tag, (minorversion, count)), at) =
+    let all = few_values nfs_argop4 count args at in
+    let served = few_served (operations nfs_argop4 count args at).values (operations nfs_argop4 count args at).stop in
+    omega (arith, all, served)
 
 ops_within : (args : List ℕ) (c : CompoundValue) → compound_at args ≡ Ok c → length c.ops.values ≤ c.count
 ops_within args c e =
@@ -51,10 +68,10 @@ walked_within xid c None few short = (few, short)
 
 counted_within : (xid : ℕ) (c : CompoundValue) → length c.ops.values ≤ c.count → length c.tag ≤ 1024 → IsWithin (counted xid c)
 counted_within xid c all short =
-    cond_both (not (eqb c.minorversion 1)) (refuses_compound xid stat.MinorVersMismatch c.tag) (cond (ltb 16 c.count) (refuses_compound xid stat.TooManyOps c.tag) (walked xid c (rest_of_stop c.ops.stop)))
+    cond_both (not (eqb c.minorversion 1)) (refuses_compound xid stat.MinorVersMismatch c.tag) (cond (ltb 16 c.count) (refuses_compound xid stat.TooManyOps c.tag) (walked xid c (rest_of_stop c.stop)))
     (λ (v : IncomingValue). IsWithin v) (λ other. tt)
-    (λ same. cond_both (ltb 16 c.count) (refuses_compound xid stat.TooManyOps c.tag) (walked xid c (rest_of_stop c.ops.stop))
-    (λ (v : IncomingValue). IsWithin v) (λ many. tt) (λ few. walked_within xid c (rest_of_stop c.ops.stop) (omega (arith, all, ltb-false 16 c.count few)) short))
+    (λ same. cond_both (ltb 16 c.count) (refuses_compound xid stat.TooManyOps c.tag) (walked xid c (rest_of_stop c.stop))
+    (λ (v : IncomingValue). IsWithin v) (λ many. tt) (λ few. walked_within xid c (rest_of_stop c.stop) (omega (arith, all, ltb-false 16 c.count few)) short))
 
 head_within : (xid : ℕ) (args : List ℕ) (r : Result CompoundValue XdrError) → compound_at args ≡ r → IsWithin (with_head xid r)
 head_within xid args (Ok c) is = counted_within xid c (ops_within args c is) (tag_within args c is)

@@ -16,9 +16,11 @@ use Rattle.mds_rule.specs.MdsStates.{ServedFile, MdsSend, CallsServer, CallsBack
 use Rattle.mds_rule.specs.declared.waiter.Waiter.TheVariants.{ForFile, ForRead, ForWrite, ForRecall}
 use Rattle.mds_rule.specs.ServedFiles.{is_period_end, file_behind, file_stepped}
 use Rattle.mds_rule.specs.Goes.{xid_after}
-use Rattle.mds_laws.specs.MdsRuns.{after_event}
-use Rattle.mds_laws.proofs.Lists.{AllOf, all_push, all_in}
-use Rattle.mds_laws.proofs.Keeping.{Cases, HeardAny, hears_any, is_note}
+use Rattle.mds_walk.specs.MdsRuns.{after_event}
+use Rattle.mds_walk.proofs.Lists.{AllOf, all_push, all_in}
+use Rattle.mds_laws.proofs.Keeping.{Cases, is_note}
+use Rattle.mds_walk.proofs.Parts.{HeardAny}
+use Rattle.mds_walk.proofs.Keeping.{hears_any}
 use Rattle.mds_laws.proofs.Numbers.{WereSent, sent_more, sent_with, sent_kept}
 use Rattle.mds_laws.proofs.GoesWalk.{event_walk}
 use Rattle.mds_forms.specs.Forms.{IsNoPacket, IsInForm, MdsStaysInForm}

@@ -7,8 +7,8 @@ use Rattle.cluster_model.specs.declared.entry.Entry.{Entry}
 use Rattle.cluster_model.specs.declared.entry.Entry.TheVariants.{Packet}
 use Rattle.cluster_model.specs.Members.{IsOneOf}
 use Rattle.mds_rule.specs.MdsStates.{MdsSend, CallsServer, CallsBack, Replies, Answers, AwaitedCall, MdsValue}
-use Rattle.mds_laws.specs.MdsRuns.{MdsEvent, after_event}
-use Rattle.mds_laws.proofs.Lists.{AllOf}
+use Rattle.mds_walk.specs.MdsRuns.{MdsEvent, after_event}
+use Rattle.mds_walk.proofs.Lists.{AllOf}
 
 -- packets are the world's: one for each record that is sent
 abbrev pub IsNoPacket : Entry → Type 0

@@ -4,7 +4,7 @@ use Rattle.std.specs.Prelude.{map}
 use Rattle.std.proofs.lemmas.List.{append_assoc, append-nil}
 use Rattle.cluster_model.specs.declared.entry.Entry.{Entry}
 use Rattle.mds_rule.specs.MdsStates.{MdsSend, MdsValue, MdsStep}
-use Rattle.mds_laws.specs.MdsRuns.{MdsEvent, after_event, run_from}
+use Rattle.mds_walk.specs.MdsRuns.{MdsEvent, after_event, run_from}
 use Rattle.mds_histories.specs.MdsHistory.{MdsItem, Comes, Enters, Sends, items_of, mds_history, entries_in, sends_in, IsOfRun}
 
 -- ---- joined items

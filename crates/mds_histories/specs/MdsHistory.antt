@@ -2,7 +2,7 @@
 use Rattle.std.specs.Prelude.{◌≡◌, List, [], ◌∷◌, ◌++◌, map}
 use Rattle.cluster_model.specs.declared.entry.Entry.{Entry}
 use Rattle.mds_rule.specs.MdsStates.{MdsSend, MdsValue, MdsStep}
-use Rattle.mds_laws.specs.MdsRuns.{MdsEvent, after_event, run_from}
+use Rattle.mds_walk.specs.MdsRuns.{MdsEvent, after_event, run_from}
 
 pub data MdsItem : Type 0 where
   Comes : (event : MdsEvent) → MdsItem

@@ -2,7 +2,7 @@
 
 ghost use Rattle.std.specs.Prelude.{List};
 ghost use Rattle.mds_rule.specs.MdsStates.{MdsValue};
-ghost use Rattle.mds_laws.specs.MdsRuns.{MdsEvent};
+ghost use Rattle.mds_walk.specs.MdsRuns.{MdsEvent};
 ghost use Rattle.mds_histories.specs.MdsHistory.{IsOfRun};
 
 /// The history of any events enters and sends what their run does, in the same order.

@@ -4,7 +4,7 @@ ghost use Rattle.std.specs.Prelude.{◌≡◌, ℕ, ⊤, ◌≤◌, ◌+◌, len
 ghost use Rattle.std.specs.List.{list_any};
 ghost use Rattle.std.specs.Borrow.{sem, follows_so};
 ghost use mathlib.Core.Option.{none};
-ghost use Rattle.cluster_model.specs.declared.limits.TheConstants.{MAX_FILE, PIECE_SIZE};
+ghost use Rattle.cluster_model.specs.declared.limits.TheConstants.{MAX_FILE};
 ghost use Rattle.cluster_model.specs.DsCalls.{plain_ds_reply};
 ghost use Rattle.mirror_writer.specs.Calls.{SendsCall, CarriesFewBytes, WaitsAt};
 ghost use Rattle.mirror_writer.specs.Writers.{is_call, after_timeout, open_committed};
@@ -13,7 +13,7 @@ ghost use Rattle.mds_io.specs.OwnWrites.{own_write, after_own_reply, step_by, en
 
 use cluster_model::{Cred, DsCall, DsReply, LeftCause, MirrorId, Mirrors, Reported, SERVERFAULT};
 use ff_xdr::NoMemory;
-use mirror_writer::{WriteStart, Writer, WriterStep};
+use mirror_writer::{WriteBytes, WriteStart, Writer, WriterStep};
 use std::alloc::Global;
 use std::marker::Model;
 
@@ -33,17 +33,15 @@ impl Model for MdsWrite {
 }
 
 impl MdsWrite {
-    /// The write of 1 to 65,536 bytes that ends at 67,108,864 or before: a WRITE to each mirror waits. Its calls carry the
-    /// uid `cred`.
+    /// The write of bytes that end at 67,108,864 or before: a WRITE to each mirror waits. Its calls carry the uid `cred`. The
+    /// bytes are shared, and not copied.
     pub fn start(
         alloc: Global,
         live: Mirrors,
         cred: Cred,
         at: u64,
-        bytes: &[u8],
+        bytes: &WriteBytes,
     ) -> Result<MdsWrite, NoMemory>
-        requires some { 1 ≤ length bytes.now }
-        requires few { length bytes.now ≤ PIECE_SIZE }
         requires within { at + length bytes.now ≤ MAX_FILE }
         ensures { IfOk result (λ w. w ≡ own_write live cred.0 at bytes.now) }
     {

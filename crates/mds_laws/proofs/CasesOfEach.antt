@@ -13,9 +13,11 @@ use Rattle.mds_rule.specs.FileOps.{with_write}
 use Rattle.mds_rule.specs.LayoutOps.{with_holder}
 use Rattle.mds_rule.specs.Answers.{write_stepped}
 use Rattle.mds_laws.proofs.OwnWriters.{StaysWriter}
-use Rattle.mds_laws.proofs.Keeping.{Cases, HeardOf, IsWriterOf, IsWriteOf, Becomes, enters_becomes}
-use Rattle.mds_laws.proofs.EachCases.{EachCase, end_input, without_write}
-use Rattle.mds_laws.proofs.OpsWalk.{old_write, served_again, stepped_there}
+use Rattle.mds_laws.proofs.Keeping.{Cases, IsWriterOf, IsWriteOf, old_write}
+use Rattle.mds_walk.proofs.Parts.{HeardOf, Becomes, end_input, without_write}
+use Rattle.mds_walk.proofs.Keeping.{enters_becomes}
+use Rattle.mds_laws.proofs.EachCases.{EachCase}
+use Rattle.mds_walk.proofs.Served.{served_again, stepped_there}
 use Rattle.mds_laws.proofs.WriterKept.{answer_kept, timeout_kept}
 
 module _ (I : MdsValue → List Entry → List MdsSend → Type 0) (Heard : HeardOf) (k : Cases I Heard) where

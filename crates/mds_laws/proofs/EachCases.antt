@@ -1,16 +1,14 @@
 -- What any part of an event can do, told more closely than in `Cases`: an own write by what it begins with, by each of its answers and
 -- timeouts, and by its end (RFC 8881, section 18.32), and who holds a file.
-use Rattle.std.proofs.Common.{◌≡◌, ◌≤◌, ◌<◌, ℕ, ◌+◌, Bool, true, false, List, [], ◌∷◌, ◌++◌, length, Some, None, filter}
+use Rattle.std.proofs.Common.{◌≡◌, ℕ, Bool, true, false, List, [], ◌∷◌, ◌++◌, Some, filter}
 use Rattle.rpc_record.specs.Replies.{RpcReply, reply_bytes}
-use Rattle.cluster_model.specs.declared.limits.TheConstants.{MAX_FILE, PIECE_SIZE}
 use Rattle.cluster_model.specs.declared.ids.NodeId.{NodeId}
 use Rattle.cluster_model.specs.declared.ids.FileId.{FileId}
 use Rattle.cluster_model.specs.declared.entry.Entry.{Entry}
-use Rattle.cluster_model.specs.declared.layout_state.LayoutPhase.TheVariants.{Free}
 use Rattle.cluster_model.specs.DsCalls.{DsCallValue, DsReplyValue}
 use Rattle.cluster_model.specs.declared.ds_call.Shown.{Shown}
 use Rattle.cluster_model.specs.Members.{IsOneOf}
-use Rattle.file_rule.specs.FilePhases.{FileInput, AsksLayout, OwnWrite, Recall as ToRecall, Returns, Revokes, OwnEnds, Resilver, Answers as IsAnswer, TimesOut, Ticks, Sees, phase, CallOut, call_out, is_outstanding, are_spent}
+use Rattle.file_rule.specs.FilePhases.{FileInput, AsksLayout, OwnWrite, Recall as ToRecall, Returns, Revokes, OwnEnds, Resilver, Answers as IsAnswer, TimesOut, Ticks, Sees, phase, CallOut, call_out, is_outstanding}
 use Rattle.mds_io.specs.OwnWrites.{after_own_reply, ended}
 use Rattle.mirror_writer.specs.Writers.{WriterSends}
 use Rattle.mirror_writer.specs.Writers as writer
@@ -24,10 +22,11 @@ use Rattle.mds_rule.specs.declared.waiter.Waiter.TheVariants.{ForFile, ForRead, 
 use Rattle.mds_rule.specs.ServedFiles.{has_fresh, file_behind, file_stepped}
 use Rattle.mds_rule.specs.FileOps.{with_new_file, may_make, with_write}
 use Rattle.mds_rule.specs.LayoutOps.{with_holder}
-use Rattle.mds_rule.specs.Answers.{server_number, fileid_of, attributes_shown, own_answer, failures_by_place, write_stepped}
+use Rattle.mds_rule.specs.Answers.{server_number, fileid_of, attributes_shown, own_answer, write_stepped}
 use Rattle.mds_rule.specs.Goes.{xid_after, calls_as, calls_server, has_xids}
 use Rattle.mds_laws.specs.MdsRunLaws.{IsUidOf}
-use Rattle.mds_laws.proofs.Keeping.{Becomes, Enters, Keeps, IsNoRequest, TakesInput, HeardOf, moved, is_note, comes_by_itself, is_read_call, is_write_call}
+use Rattle.mds_walk.proofs.Parts.{Becomes, Enters, Keeps, TakesInput, HeardOf, moved, CanBegin, end_input, without_write}
+use Rattle.mds_laws.proofs.Keeping.{IsNoRequest, is_note, comes_by_itself, is_read_call, is_write_call}
 
 -- an input of the metadata server's own write
 abbrev pub is_own_input : FileInput → Bool
@@ -42,21 +41,6 @@ is_own_input (IsAnswer xid reply) = false
 is_own_input (TimesOut xid) = false
 is_own_input Ticks = false
 is_own_input (Sees id seen) = false
-
--- An own write begins where the file is free and uids are left, with bytes, and within the limits.
-pub record CanBegin (m : MdsValue) (s : ServedFile) (at : ℕ) (bytes : List ℕ) : Type 0 where
-  pub free : s.file.layout.phase ≡ Free
-  pub unspent : are_spent m.fresh ≡ false
-  pub some : 0 < length bytes
-  pub few : length bytes ≤ PIECE_SIZE
-  pub within : at + length bytes ≤ MAX_FILE
-
--- what the file takes at its end, and the file without it
-abbrev pub end_input : ServedFile → WaitingWrite → FileInput
-end_input s w = OwnEnds (failures_by_place w.failures s.file.layout.live) w.at w.bytes
-
-abbrev pub without_write : ServedFile → ServedFile
-without_write s = record s { write = None }
 
 pub record EachCase (I : MdsValue → List Entry → List MdsSend → Type 0) (Heard : HeardOf) : Type 0 where
   -- nothing of sessions, files, calls and numbers changes

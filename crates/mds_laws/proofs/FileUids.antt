@@ -35,7 +35,7 @@ use Rattle.cluster_model.specs.Phases.{is_last_live, with_phase, is_clean, unrep
 use Rattle.copy_rule.specs.declared.copy_target.CopyTarget.{CopyTarget}
 use Rattle.copy_rule.specs.declared.copy_target.CopyStep.{CopyStep}
 use Rattle.copy_rule.specs.declared.copy_target.CopyStep.TheVariants as copy_step
-use Rattle.copy_rule.specs.Copies.{CopyState, CopyCall, CopyAfter, TargetStep, with_target, with_read, with_piece, with_next, has_outcome, have_answered, swaps_of, copy_then, stranger, source_fails, read_answered, read_late, is_long, by_read, step_at, step_from, target_of, target_answered, target_late, waiting_at, target_call_at, call_from, target_call, target_caller}
+use Rattle.copy_rule.specs.Copies.{CopyState, CopyCall, CopyAfter, TargetStep, with_target, with_read, with_piece, with_next, has_outcome, have_answered, may_read_on, swaps_of, copy_then, stranger, source_fails, read_answered, read_late, is_long, by_read, step_at, step_from, target_of, target_answered, target_late, waiting_at, target_call_at, call_from, target_call, target_caller}
 use Rattle.copy_rule.specs.Copies as copy
 use Rattle.file_rule.specs.declared.creation.Creation.{Creation}
 use Rattle.file_rule.specs.declared.fresh.Fresh.{Fresh}
@@ -180,7 +180,7 @@ module _ (c : CopyState) where
   at_call_fits xid place (Some t) = (refl, λ drawn. target_call_fits xid place t t.made drawn)
 
   from_call_fits : (xid : ℕ) (o : Option ℕ) → CallFits (call_from c xid o)
-  from_call_fits xid None = cond_both (waits c.read && have_answered c) (Some _) None CallFits (λ is. (refl, λ drawn. refl)) (λ off. tt)
+  from_call_fits xid None = cond_both (waits c.read && may_read_on c) (Some _) None CallFits (λ is. (refl, λ drawn. refl)) (λ off. tt)
   from_call_fits xid (Some place) = at_call_fits xid place (slice_get c.targets place)
 
   next_fits : (xid : ℕ) → CallFits (copy.next_call c xid)

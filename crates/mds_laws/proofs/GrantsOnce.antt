@@ -22,11 +22,12 @@ use Rattle.mds_rule.specs.MdsStates.{ServedFile, MdsSend, CallsServer, CallsBack
 use Rattle.mds_rule.specs.declared.waiter.Waiter.TheVariants.{ForFile, ForRead, ForWrite, ForRecall}
 use Rattle.mds_rule.specs.ServedFiles.{is_period_end, file_behind, file_stepped}
 use Rattle.mds_rule.specs.FileOps.{servers_of, new_served, with_new_file}
-use Rattle.mds_laws.specs.MdsRuns.{MdsEvent}
+use Rattle.mds_walk.specs.MdsRuns.{MdsEvent}
 use Rattle.mds_laws.specs.MdsRunLaws.{grants_uid, IsFirstGrant, GrantsUidsOnce}
-use Rattle.mds_laws.proofs.Lists.{EachOf, each_push, each_join, each_at, AllOf, all_push, all_set, all_got}
-use Rattle.mds_laws.proofs.Keeping.{Cases, HeardAny, note_quiet, is_quiet}
-use Rattle.mds_laws.proofs.OpsWalk.{place_served}
+use Rattle.mds_walk.proofs.Lists.{EachOf, each_push, each_join, each_at, AllOf, all_push, all_set, all_got}
+use Rattle.mds_laws.proofs.Keeping.{Cases, note_quiet, is_quiet}
+use Rattle.mds_walk.proofs.Parts.{HeardAny}
+use Rattle.mds_walk.proofs.Served.{place_served}
 use Rattle.mds_laws.proofs.GoesWalk.{in_each_run}
 use Rattle.mds_laws.proofs.FileGrants.{out_layout}
 use Rattle.mds_laws.proofs.NextUids.{next_uid, Agrees, Keeps, Draws, IsUseOf, next_behind, Uses}

@@ -18,7 +18,7 @@ use Rattle.mds_rule.specs.ServedFiles.{takes_input}
 use Rattle.mds_rule.specs.FileOps.{client_of, current_file}
 use Rattle.mds_rule.specs.LayoutOps.{layout_asked, layout_found, with_holder, granted_in, grants_to, is_granted, phase_behind, is_try_later, later_by, layout_answer}
 use Rattle.mds_laws.specs.HandedLayouts.{HandsLayout, HandsLayoutsToHolders}
-use Rattle.mds_laws.proofs.OpsWalk.{place_served}
+use Rattle.mds_walk.proofs.Served.{place_served}
 
 -- a file that was put in its place stands there
 served_again : (m : MdsValue) (file : FileId) (s t : ServedFile) → served m file ≡ Some s → served (with_served m file t) file ≡ Some t

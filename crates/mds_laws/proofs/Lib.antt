@@ -1,14 +1,9 @@
-pub mod Lists
-pub mod LateFound
 pub mod OwnWriters
 pub mod Keeping
 pub mod EachCases
-pub mod Requested
-mod ServedWalk
-pub mod OpsWalk
 pub mod WriterKept
 pub mod CasesOfEach
-mod CompoundWalk
+pub mod EachParts
 pub mod GoesWalk
 pub mod Numbers
 mod FileUids

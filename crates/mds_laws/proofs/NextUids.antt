@@ -15,7 +15,7 @@ use Rattle.cluster_model.specs.declared.targets.SwappedIn.{SwappedIn}
 use Rattle.cluster_model.specs.Phases.{left_entries, made, phase_without, swapped_entries}
 use Rattle.file_rule.specs.MdsFiles.{Activity, Idle, Makes, Fences, Settles, Copies, begun_by}
 use Rattle.file_rule.specs.FilePhases.{kind_of, ticked}
-use Rattle.mds_laws.proofs.Lists.{AllOf}
+use Rattle.mds_walk.proofs.Lists.{AllOf}
 
 -- ---- the uid of the next grant
 

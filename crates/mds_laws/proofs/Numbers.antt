@@ -20,10 +20,11 @@ use Rattle.mds_rule.specs.MdsStates.{ServedFile, MdsSend, CallsServer, CallsBack
 use Rattle.mds_rule.specs.declared.waiter.Waiter.TheVariants.{ForFile, ForRead, ForWrite, ForRecall}
 use Rattle.mds_rule.specs.ServedFiles.{is_period_end, file_behind, file_stepped}
 use Rattle.mds_rule.specs.Goes.{xid_after}
-use Rattle.mds_laws.specs.MdsRuns.{MdsEvent}
+use Rattle.mds_walk.specs.MdsRuns.{MdsEvent}
 use Rattle.mds_laws.specs.MdsRunLaws.{number_sent, AreBelow, IsNewOrAgain, IsNew, IsAgain, NumbersAscend, FitsNumber, NumbersFit}
-use Rattle.mds_laws.proofs.Lists.{in_more, in_last, in_with_call, in_filtered, Split, split_in, EachOf, each_push, each_at, AllOf, all_push, all_in, all_split}
-use Rattle.mds_laws.proofs.Keeping.{Cases, HeardAny}
+use Rattle.mds_walk.proofs.Lists.{in_more, in_last, in_with_call, in_filtered, Split, split_in, EachOf, each_push, each_at, AllOf, all_push, all_in, all_split}
+use Rattle.mds_laws.proofs.Keeping.{Cases}
+use Rattle.mds_walk.proofs.Parts.{HeardAny}
 use Rattle.mds_laws.proofs.GoesWalk.{in_each_run}
 
 -- ---- the calls that were sent

@@ -34,13 +34,13 @@ use Rattle.mds_rule.specs.ServedFiles.{is_period_end, file_behind, file_stepped}
 use Rattle.mds_rule.specs.FileOps.{servers_of, new_served, with_new_file, with_write}
 use Rattle.mds_rule.specs.LayoutOps.{with_holder}
 use Rattle.mds_rule.specs.Answers.{own_answer, failures_by_place, write_stepped}
-use Rattle.mds_laws.specs.MdsRuns.{MdsEvent, run_from}
+use Rattle.mds_walk.specs.MdsRuns.{MdsEvent, run_from}
 use Rattle.mds_laws.specs.OwnPeriods.{BeginsWithWrite, FollowsGrant, WasSentBefore, BeginsWithEnd, FollowsTold, RunsOwnPeriods}
-use Rattle.mds_laws.proofs.Lists.{in_more, in_last, Split, split_in, EachOf, each_join, each_at}
-use Rattle.mds_laws.proofs.Keeping.{HeardAny, is_note}
-use Rattle.mds_laws.proofs.EachCases.{EachCase, CanBegin, is_own_input, end_input, without_write}
-use Rattle.mds_laws.proofs.OpsWalk.{place_served, served_again}
-use Rattle.mds_laws.proofs.CompoundWalk.{set_twice}
+use Rattle.mds_walk.proofs.Lists.{in_more, in_last, Split, split_in, EachOf, each_join, each_at, set_twice}
+use Rattle.mds_walk.proofs.Parts.{HeardAny, CanBegin, end_input, without_write}
+use Rattle.mds_laws.proofs.Keeping.{is_note}
+use Rattle.mds_laws.proofs.EachCases.{EachCase, is_own_input}
+use Rattle.mds_walk.proofs.Served.{place_served, served_again}
 use Rattle.mds_laws.proofs.GoesWalk.{behind_each_run}
 use Rattle.mds_laws.proofs.FileGrants.{out_layout}
 use Rattle.mds_laws.proofs.Numbers.{WereSent, sent_more, sent_with, sent_kept}

@@ -34,11 +34,14 @@ use Rattle.mds_rule.specs.MdsStates.{ServedFile, MdsSend, CallsServer, CallsBack
 use Rattle.mds_rule.specs.declared.waiter.Waiter.TheVariants.{ForFile, ForRead, ForWrite, ForRecall}
 use Rattle.mds_rule.specs.ServedFiles.{is_period_end, file_behind, file_stepped}
 use Rattle.mds_rule.specs.Compounds.{sequenced, sequence_in, sequence_of, first_by, first_operation, new_run}
-use Rattle.mds_laws.specs.MdsRuns.{MdsInput, MdsEvent, Hears, IsTimedOut, Ticks, RecallsFile, Resilvers, after_event}
-use Rattle.mds_laws.specs.SlotUses.{first_request, request_in, effect_asked, effect_in, effects_in, RequestsTakeEffectOnce, OnlyEffectsChange, RepeatsChangeNothing}
-use Rattle.mds_laws.proofs.Lists.{AllOf, all_push}
-use Rattle.mds_laws.proofs.Keeping.{IsNoRequest, Cases, HeardAny, hears_any}
-use Rattle.mds_laws.proofs.Requested.{request_moves, begun_moves}
+use Rattle.mds_walk.specs.MdsRuns.{MdsInput, MdsEvent, Hears, IsTimedOut, Ticks, RecallsFile, Resilvers, after_event}
+use Rattle.mds_walk.specs.FirstRequests.{first_request, request_in}
+use Rattle.mds_laws.specs.SlotUses.{effect_asked, effect_in, effects_in, RequestsTakeEffectOnce, OnlyEffectsChange, RepeatsChangeNothing}
+use Rattle.mds_walk.proofs.Lists.{AllOf, all_push}
+use Rattle.mds_laws.proofs.Keeping.{IsNoRequest, Cases}
+use Rattle.mds_walk.proofs.Parts.{HeardAny}
+use Rattle.mds_walk.proofs.Keeping.{hears_any}
+use Rattle.mds_walk.proofs.Requested.{request_moves, begun_moves}
 use Rattle.mds_laws.proofs.Numbers.{WereSent, sent_more, sent_with, sent_kept}
 use Rattle.mds_laws.proofs.CasesOfEach.{each_case}
 use Rattle.mds_laws.proofs.GoesWalk.{input_walk}

@@ -19,7 +19,7 @@ use Rattle.mds_rule.specs.OpSteps.{OpStep, Goes, Ends, Waits, refused_or}
 use Rattle.mds_rule.specs.FileOps.{client_of, current_file, uids_left}
 use Rattle.mds_rule.specs.LayoutOps.{layout_asked, holds_by, fault_of_holder, layout_fault, layout_found, grants_to, is_granted, phase_behind, is_try_later, later_by, layout_answer}
 use Rattle.mds_laws.specs.HandedLayouts.{WasFreeOrIts, WasFree, WasIts, WhereItGoes, TakesNoLayoutAway}
-use Rattle.mds_laws.proofs.Lists.{AllOf}
+use Rattle.mds_walk.proofs.Lists.{AllOf}
 
 -- ---- where nothing refuses it
 

@@ -20,11 +20,12 @@ use Rattle.mds_rule.specs.declared.waiter.Waiter.{Waiter}
 use Rattle.mds_rule.specs.declared.waiter.Waiter.TheVariants.{ForFile, ForRead, ForWrite, ForRecall}
 use Rattle.mds_rule.specs.ServedFiles.{is_period_end, file_behind, file_stepped}
 use Rattle.mds_rule.specs.FileOps.{with_new_file}
-use Rattle.mds_laws.specs.MdsRuns.{MdsEvent}
+use Rattle.mds_walk.specs.MdsRuns.{MdsEvent}
 use Rattle.mds_laws.specs.MdsRunLaws.{IsUidOf, IsByItsUid, CallsByUids}
-use Rattle.mds_laws.proofs.Lists.{AllOf, all_push, all_in, all_set, all_got, all_split}
-use Rattle.mds_laws.proofs.Keeping.{Cases, HeardAny, IsWriterOf, IsWriteOf}
-use Rattle.mds_laws.proofs.OpsWalk.{place_served}
+use Rattle.mds_walk.proofs.Lists.{AllOf, all_push, all_in, all_set, all_got, all_split}
+use Rattle.mds_laws.proofs.Keeping.{Cases, IsWriterOf, IsWriteOf}
+use Rattle.mds_walk.proofs.Parts.{HeardAny}
+use Rattle.mds_walk.proofs.Served.{place_served}
 use Rattle.mds_laws.proofs.GoesWalk.{in_each_run}
 use Rattle.mds_laws.proofs.WriterKept.{sends_of}
 use Rattle.mds_laws.proofs.FileUids.{FileFits, phase_fits, out_fits}

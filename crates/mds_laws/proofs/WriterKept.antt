@@ -18,7 +18,7 @@ use Rattle.mirror_writer.specs.declared.mirror.TheConstants.{ACCES, STALE}
 use Rattle.mirror_writer.specs.declared.step.WriterStep.TheVariants as step
 use Rattle.mirror_writer.specs.Writers.{WriterMirror, WriterValue, WriterAfter, WriterSends, next_place, next_at, call_for, write_of_taken, sends_as, sends_next, sends_to, sends_at, next_sent, mirror_of_call, with_writer_mirror, with_writer_call, with_out, with_failure, without_call, with_write_answer, fails, is_fenced_by, refused_by, write_answered, with_commit, commit_answered, call_answered, mirror_answered, answered_at, after_reply, open_committed, timed_out_as, call_timed_out, mirror_timed_out, timed_out_at, after_timeout}
 use Rattle.mds_laws.specs.MdsRunLaws.{IsUidOf}
-use Rattle.mds_laws.proofs.Lists.{got_in}
+use Rattle.mds_walk.proofs.Lists.{got_in}
 use Rattle.mds_laws.proofs.OwnWriters.{StaysWriter, IsCallOf, stays_itself, put_same, fileid_in}
 use Rattle.mds_laws.proofs.Keeping.{is_read_call, is_write_call}
 

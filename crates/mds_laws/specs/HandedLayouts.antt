@@ -4,10 +4,9 @@ use Rattle.ff_xdr.specs.Form.{Value}
 use Rattle.cluster_model.specs.declared.layout_state.LayoutPhase.TheVariants.{Free}
 use Rattle.nfs4_file_ops.specs.LayoutGet.{layoutget4_args}
 use Rattle.mds_rule.specs.MdsStates.{CompoundRun, ServedFile, MdsValue, served}
-use Rattle.mds_rule.specs.OpSteps.{OpStep, Goes, Ends, Waits}
+use Rattle.mds_rule.specs.OpSteps.{OpStep, Goes, Ends, Waits, with_result}
 use Rattle.mds_rule.specs.FileOps.{client_of, current_file}
 use Rattle.mds_rule.specs.LayoutOps.{layout_of_file, runs_layout_get}
-use Rattle.mds_rule.specs.OpSteps.{with_result}
 
 -- the result is the layout of the file that the client of this compound holds, under the uid that the file was granted
 pub record HandsToHolder (c : CompoundRun) (n : MdsValue) (d : CompoundRun) : Type 0 where

@@ -1,4 +1,3 @@
-pub mod MdsRuns
 pub mod MdsRunLaws
 pub mod HandedLayouts
 pub mod SlotUses

@@ -8,7 +8,7 @@ use Rattle.cluster_model.specs.declared.phase.EndCause.TheVariants.{Own}
 use Rattle.cluster_model.specs.declared.entry.Entry.{Entry}
 use Rattle.cluster_model.specs.declared.entry.Entry.TheVariants.{Granted, Sent, Told, Ended}
 use Rattle.device_addr.specs.Universal.{AddressValue}
-use Rattle.mds_laws.specs.MdsRuns.{MdsEvent, mds_run}
+use Rattle.mds_walk.specs.MdsRuns.{MdsEvent, mds_run}
 
 -- the first of these entries is of a write with bytes
 pub record BeginsWithWrite (f : FileId) (cred : Cred) (entries : List Entry) : Type 0 where

@@ -1,11 +1,10 @@
 -- Which requests of a slot take effect in a run of a metadata server (RFC 8881, sections 2.10.6.1 and 18.46).
-use Rattle.std.specs.Prelude.{◌≡◌, ℕ, List, [], ◌∷◌, ◌++◌, Option, Some, None, option_map}
-use Rattle.ff_xdr.specs.Form.{Value, spelling}
+use Rattle.std.specs.Prelude.{◌≡◌, ℕ, List, [], ◌∷◌, ◌++◌, Option, Some, None}
+use Rattle.ff_xdr.specs.Form.{spelling}
 use Rattle.rpc_record.specs.Replies.{RpcReply}
 use Rattle.cluster_model.specs.declared.ids.NodeId.{NodeId}
 use Rattle.nfs4_types.specs.declared.ids.SessionId.{SessionId}
 use Rattle.nfs4_types.specs.declared.sequence.Sequence.{Sequence}
-use Rattle.nfs4_compound.specs.Args.{argop4}
 use Rattle.nfs4_types.specs.declared.status.Stat4.{Stat4}
 use Rattle.nfs4_types.specs.Status.{stat4_number}
 use Rattle.compound_reply.specs.Replied.{success_reply}
@@ -16,24 +15,12 @@ use Rattle.nfs4_session.specs.Requests.{request_answer}
 use Rattle.nfs4_session.specs.Bindings.{after_binding}
 use Rattle.table_slots.specs.TableSlots.{effect_on}
 use Rattle.device_addr.specs.Universal.{AddressValue}
-use Rattle.mds_receive.specs.MdsReceive.{IncomingValue, PassedOver, IsReply, IsAnswered, IsCompound, incoming_of}
+use Rattle.mds_receive.specs.MdsReceive.{incoming_of}
 use Rattle.mds_rule.specs.MdsStates.{Replies, MdsValue, MdsStep, new_mds}
 use Rattle.mds_rule.specs.OpSteps.{refused_as}
-use Rattle.mds_rule.specs.Compounds.{sequence_in, sequence_of, runs_compound}
-use Rattle.mds_laws.specs.MdsRuns.{MdsEvent, MdsInput, Hears, IsTimedOut, Ticks, RecallsFile, Resilvers, after_event}
-
--- ---- the request that a record makes
-
--- of a slot, where its compound begins with a SEQUENCE
-abbrev pub first_request : List (Value argop4) → Option Sequence
-first_request [] = None
-first_request (op ∷ ops) = option_map sequence_in (sequence_of op)
-
-abbrev pub request_in : IncomingValue → Option Sequence
-request_in PassedOver = None
-request_in (IsReply reply) = None
-request_in (IsAnswered bytes) = None
-request_in (IsCompound xid v) = first_request v.ops.values
+use Rattle.mds_rule.specs.Compounds.{runs_compound}
+use Rattle.mds_walk.specs.FirstRequests.{first_request, request_in}
+use Rattle.mds_walk.specs.MdsRuns.{MdsEvent, MdsInput, Hears, IsTimedOut, Ticks, RecallsFile, Resilvers, after_event}
 
 -- ---- those that take effect
 

@@ -3,7 +3,7 @@
 
 ghost use Rattle.std.specs.Prelude.{ℕ, List};
 ghost use Rattle.device_addr.specs.Universal.{AddressValue};
-ghost use Rattle.mds_laws.specs.MdsRuns.{MdsEvent};
+ghost use Rattle.mds_walk.specs.MdsRuns.{MdsEvent};
 ghost use Rattle.mds_laws.specs.MdsRunLaws.{NumbersAscend, NumbersFit, CallsByUids, GrantsFreeFiles, GrantsUidsOnce};
 ghost use Rattle.mds_laws.specs.HandedLayouts.{HandsLayoutsToHolders, TakesNoLayoutAway};
 ghost use Rattle.mds_laws.specs.OwnPeriods.{RunsOwnPeriods};

@@ -6,7 +6,7 @@ use Rattle.cluster_model.specs.declared.ids.Mirror.{Mirror}
 use Rattle.cluster_model.specs.DsCalls.{DsCallValue, Create, SetAttr, Write, Commit, Read}
 use Rattle.cluster_model.specs.Fences.{FenceState, waits}
 use Rattle.cluster_model.specs.Fences as fence
-use Rattle.copy_rule.specs.Copies.{CopyState, CopyCall, have_answered, target_call, target_call_at, call_from, waiting_at}
+use Rattle.copy_rule.specs.Copies.{CopyState, CopyCall, may_read_on, target_call, target_call_at, call_from, waiting_at}
 use Rattle.copy_rule.specs.declared.copy_target.CopyTarget.{CopyTarget}
 use Rattle.cluster_model.specs.declared.fence_mirror.FenceMirror.{FenceMirror}
 use Rattle.file_rule.specs.declared.creation.Creation.{Creation}
@@ -54,7 +54,7 @@ module _ (f : MdsFile) where
   target_at c xid place (Some t) = target c t.name t.made
 
   copies : (c : CopyState) (xid : ℕ) (o : Option ℕ) → OutReads (copy_out f (call_from c xid o))
-  copies c xid None = cond_both (waits c.read && have_answered c) (Some _) None (λ (o : Option CopyCall). OutReads (copy_out f o)) (λ is. omega arith) (λ off. tt)
+  copies c xid None = cond_both (waits c.read && may_read_on c) (Some _) None (λ (o : Option CopyCall). OutReads (copy_out f o)) (λ is. omega arith) (λ off. tt)
   copies c xid (Some place) = target_at c xid place (slice_get c.targets place)
 
   out_of : (xid : ℕ) (a : Activity) → OutReads (call_out_of f xid a)

@@ -1,7 +1,7 @@
 -- A call that goes out is a call of the machine: a file's own, or one that anybody may send.
 use Rattle.std.proofs.Common.{◌≡◌, ◌<◌, ◌≤◌, ◌⊎◌, ℕ, ◌-◌, Bool, true, cond, List, [], ◌∷◌, ◌++◌, length, Some, refl, sym, ap, subst, ◌∙◌, inl, inr, arith}
 use Rattle.std.specs.Prelude.{map, slice_get, slice_set}
-use Rattle.std.proofs.lemmas.Bool.{and_from, lt-ltb}
+use Rattle.std.proofs.lemmas.Bool.{and_from, lt-ltb, cases_lt}
 use Rattle.cluster_model.specs.declared.ids.NodeId.TheVariants.{Mds, Server}
 use Rattle.cluster_model.specs.declared.ids.FileId.{FileId}
 use Rattle.cluster_model.specs.declared.entry.Entry.{Entry}
@@ -30,7 +30,6 @@ use Rattle.mds_moves.proofs.FileStands.{TellsAll}
 use Rattle.mds_moves.proofs.WriterMirrors.{within}
 use Rattle.mds_moves.proofs.WriterSends.{call_so, is_bound}
 use Rattle.mds_moves.proofs.OwnKept.{ends_before, own_put, own_on, calls_none}
-use Rattle.std.proofs.lemmas.Bool.{cases_lt}
 use Rattle.std.proofs.lemmas.List.{append-nil}
 use Rattle.std.proofs.lemmas.Option.{same_Some}
 use Rattle.machine_moves.proofs.Packets.{move_keeps}
@@ -38,8 +37,8 @@ use Rattle.mds_rule.specs.MdsStates.{WaitingWrite, ServedFile, MdsSend, CallsSer
 use Rattle.mds_rule.specs.declared.waiter.Waiter.{Waiter}
 use Rattle.mds_rule.specs.declared.waiter.Waiter.TheVariants.{ForFile, ForWrite}
 use Rattle.mds_rule.specs.Goes.{calls_server, has_xids}
-use Rattle.mds_laws.proofs.Lists.{AllOf, in_more, in_last, all_set, all_got}
-use Rattle.mds_laws.proofs.OpsWalk.{place_served}
+use Rattle.mds_walk.proofs.Lists.{AllOf, in_more, in_last, all_set, all_got}
+use Rattle.mds_walk.proofs.Served.{place_served}
 use Rattle.mds_moves.specs.MdsMoves.{message_of, IsSpoken, IsCallFor, IsWriterInRange, IsWaitingInRange, IsServedInRange}
 use Rattle.mds_moves.proofs.CallKinds.{reads_bytes, of_write, write_used}
 use Rattle.mds_moves.proofs.MdsMachine.{file_in, file_there, set_files, put_files, is_new, goes_calling}

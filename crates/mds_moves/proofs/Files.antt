@@ -20,7 +20,7 @@ use Rattle.mds_moves.proofs.FileStands.{TellsAll}
 use Rattle.mds_rule.specs.MdsStates.{ServedFile, MdsSend, MdsValue}
 use Rattle.mds_rule.specs.ServedFiles.{has_fresh}
 use Rattle.mds_rule.specs.FileOps.{servers_of, max_files, uids_left, new_served, with_new_file, may_make}
-use Rattle.mds_laws.proofs.Lists.{all_push}
+use Rattle.mds_walk.proofs.Lists.{all_push}
 use Rattle.mds_moves.specs.MdsMoves.{IsServedInRange}
 use Rattle.mds_moves.proofs.Draws.{can}
 use Rattle.mds_moves.proofs.Servers.{new_ones, how_many}

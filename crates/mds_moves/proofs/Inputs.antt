@@ -30,8 +30,8 @@ use Rattle.mds_rule.specs.declared.waiter.Waiter.TheVariants.{ForFile, ForWrite}
 use Rattle.mds_rule.specs.ServedFiles.{is_period_end, has_fresh, file_behind, file_stepped}
 use Rattle.mds_rule.specs.Answers.{server_number, fileid_of, attributes_shown, own_answer}
 use Rattle.mds_laws.specs.MdsRunLaws.{number_sent}
-use Rattle.mds_laws.proofs.Lists.{all_set, all_got}
-use Rattle.mds_laws.proofs.OpsWalk.{place_served}
+use Rattle.mds_walk.proofs.Lists.{all_set, all_got}
+use Rattle.mds_walk.proofs.Served.{place_served}
 use Rattle.mds_laws.proofs.Keeping.{comes_by_itself}
 use Rattle.cluster_laws.specs.Holders.{IsBoundInput, IsBound}
 use Rattle.cluster_laws.specs.Telling.{telling}

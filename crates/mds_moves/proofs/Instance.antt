@@ -34,12 +34,13 @@ use Rattle.machine_moves.proofs.Bound.{goes_untold}
 use Rattle.mds_receive.specs.MdsReceive.{PassedOver, IsReply, incoming_of}
 use Rattle.mds_rule.specs.MdsStates.{WaitingWrite, ServedFile, MdsSend, CallsServer, CallsBack, Replies, Answers, AwaitedCall, MdsValue, is_call_to}
 use Rattle.mds_rule.specs.declared.waiter.Waiter.TheVariants.{ForRead, ForRecall}
-use Rattle.mds_laws.specs.MdsRuns.{MdsEvent, MdsInput, Hears as Comes, IsTimedOut, Ticks, RecallsFile, Resilvers, after_event}
+use Rattle.mds_walk.specs.MdsRuns.{MdsEvent, MdsInput, Hears as Comes, IsTimedOut, Ticks, RecallsFile, Resilvers, after_event}
 use Rattle.mds_laws.specs.MdsRunLaws.{number_sent}
-use Rattle.mds_laws.proofs.Lists.{in_more, in_filtered, all_in, all_got}
-use Rattle.mds_laws.proofs.Keeping.{Hearing, HearsSo, is_note}
+use Rattle.mds_walk.proofs.Lists.{in_more, in_filtered, all_in, all_got}
+use Rattle.mds_walk.proofs.Parts.{Hearing, HearsSo}
+use Rattle.mds_laws.proofs.Keeping.{is_note}
 use Rattle.mds_laws.proofs.EachCases.{EachCase}
-use Rattle.mds_laws.proofs.OpsWalk.{place_served}
+use Rattle.mds_walk.proofs.Served.{place_served}
 use Rattle.mds_laws.proofs.Numbers.{in_below}
 use Rattle.mds_laws.proofs.GoesWalk.{each_event}
 use Rattle.mds_moves.specs.MdsMoves.{IsSentIn, IsAwaitedFor, IsWaitingInRange, IsMdsOf, IsSendAnswered, MayComeFrom, MayComeTo, MdsGoesOn}

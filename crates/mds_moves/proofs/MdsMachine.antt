@@ -18,8 +18,8 @@ use Rattle.machine_moves.proofs.Packets.{still_called}
 use Rattle.mds_rule.specs.MdsStates.{ServedFile, MdsSend, CallsServer, CallsBack, Replies, Answers, AwaitedCall, MdsValue, with_call, served}
 use Rattle.mds_rule.specs.Goes.{xid_after}
 use Rattle.mds_laws.specs.MdsRunLaws.{number_sent}
-use Rattle.mds_laws.proofs.Lists.{in_more, in_last, in_with_call, AllOf, all_push}
-use Rattle.mds_laws.proofs.OpsWalk.{place_served}
+use Rattle.mds_walk.proofs.Lists.{in_more, in_last, in_with_call, AllOf, all_push}
+use Rattle.mds_walk.proofs.Served.{place_served}
 use Rattle.mds_laws.proofs.Numbers.{below_all, below_push, in_below, after_below, after_fits}
 use Rattle.mds_moves.specs.MdsMoves.{IsSentIn, IsAwaitedFor, IsSetUp, IsServedInRange, NumbersOnce, IsServerOf}
 

@@ -39,11 +39,11 @@ use Rattle.mds_rule.specs.ServedFiles.{has_fresh, file_behind, file_stepped}
 use Rattle.mds_rule.specs.FileOps.{with_write}
 use Rattle.mds_rule.specs.Answers.{is_failure_of, with_failed, write_stepped, failures_by_place}
 use Rattle.mds_laws.specs.MdsRunLaws.{number_sent}
-use Rattle.mds_laws.proofs.Lists.{AllOf, all_in, all_set, all_got}
+use Rattle.mds_walk.proofs.Lists.{AllOf, all_in, all_set, all_got}
 use Rattle.mds_laws.proofs.OwnWriters.{StaysWriter}
 use Rattle.mds_laws.proofs.Keeping.{IsWriteOf}
-use Rattle.mds_laws.proofs.EachCases.{CanBegin, end_input, without_write}
-use Rattle.mds_laws.proofs.OpsWalk.{place_served, served_again, stepped_there}
+use Rattle.mds_walk.proofs.Parts.{CanBegin, end_input, without_write}
+use Rattle.mds_walk.proofs.Served.{place_served, served_again, stepped_there}
 use Rattle.mds_laws.proofs.OwnPeriods.{own_granted, own_granted_so}
 use Rattle.mds_laws.proofs.WriterKept.{answer_kept, timeout_kept}
 use Rattle.mds_moves.specs.MdsMoves.{message_of, IsCallFor, IsSentBy, IsSentIn, IsWriterInRange, IsWaitingInRange, IsServedInRange}

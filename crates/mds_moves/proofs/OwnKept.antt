@@ -26,7 +26,7 @@ use Rattle.cluster_laws.specs.RunBounds.{DrawsFew}
 use Rattle.machine_moves.proofs.Going.{telling_append}
 use Rattle.mds_rows.specs.Draws.{drawn}
 use Rattle.mds_rule.specs.MdsStates.{WaitingWrite, ServedFile, MdsSend}
-use Rattle.mds_laws.proofs.Lists.{all_set}
+use Rattle.mds_walk.proofs.Lists.{all_set}
 use Rattle.mds_laws.proofs.EachCases.{is_own_input}
 use Rattle.mds_moves.specs.MdsBinds.{EndsInOrder, IsWrittenTo, OwnWriteStands, ServedStands, HasOwnWrites, NewHasOwnWrites, OwnWritesStay}
 use Rattle.mds_moves.proofs.NamesDrawn.{names_by_uid}

@@ -16,7 +16,7 @@ use Rattle.mirror_writer.specs.declared.call.TakenWrite.{TakenWrite}
 use Rattle.mirror_writer.specs.Writers.{WriterMirror, WriterValue, new_mirror, queued}
 use Rattle.mds_rule.specs.MdsStates.{WaitingWrite}
 use Rattle.mds_rule.specs.Spelled.{mds_name}
-use Rattle.mds_laws.proofs.Lists.{AllOf, all_in}
+use Rattle.mds_walk.proofs.Lists.{AllOf, all_in}
 use Rattle.mds_laws.proofs.OwnWriters.{StaysWriter, IsNewWriter, IsCallOf, fileids_of}
 use Rattle.mds_laws.proofs.Keeping.{is_read_call, IsWriterOf, IsWriteOf}
 use Rattle.mds_moves.specs.MdsMoves.{IsReached, message_of, IsSpoken, IsTakenInRange, IsWriterInRange, IsWaitingInRange}

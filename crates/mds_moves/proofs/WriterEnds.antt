@@ -14,7 +14,7 @@ use Rattle.mirror_writer.specs.Writers.{WriterMirror, WriterValue, is_committed,
 use Rattle.mds_io.specs.OwnWrites.{ended}
 use Rattle.mds_rule.specs.MdsStates.{MdsSend}
 use Rattle.mds_rule.specs.Answers.{is_failure_of, cause_at, failures_by_place}
-use Rattle.mds_laws.proofs.Lists.{AllOf}
+use Rattle.mds_walk.proofs.Lists.{AllOf}
 use Rattle.mds_moves.specs.MdsBinds.{IsWrittenTo}
 use Rattle.mds_moves.proofs.WriterMirrors.{MirrorFailures, ids_in}
 

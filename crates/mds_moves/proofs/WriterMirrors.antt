@@ -25,7 +25,7 @@ use Rattle.mirror_writer.specs.Writers.{WriterMirror, WriterValue, WriterAfter, 
 use Rattle.mds_io.specs.OwnWrites.{after_own_reply, told_by, step_by}
 use Rattle.mds_rule.specs.MdsStates.{MdsSend, CallsServer}
 use Rattle.mds_rule.specs.Answers.{is_failure_of}
-use Rattle.mds_laws.proofs.Lists.{AllOf, all_push, all_set, all_got}
+use Rattle.mds_walk.proofs.Lists.{AllOf, all_push, all_set, all_got}
 use Rattle.mds_moves.specs.MdsBinds.{IsWriteAnswered, AreCallsBehind, IsAnsweredBefore, IsAnswerKept, IsCallOut, IsWrittenTo}
 
 abbrev pub MirrorFailures : Type 0

@@ -16,7 +16,7 @@ use Rattle.mirror_writer.specs.declared.call.NextCall.{NextCall}
 use Rattle.mirror_writer.specs.declared.call.NextCall.TheVariants.{SendsWrite, SendsCommit}
 use Rattle.mirror_writer.specs.Writers.{WriterMirror, WriterValue, WriterSends, new_mirror, queued, next_place, next_at, write_of_taken, call_for, with_out, sends_as, sends_next, sends_to, sends_at, next_sent}
 use Rattle.mds_rule.specs.MdsStates.{MdsSend, CallsServer}
-use Rattle.mds_laws.proofs.Lists.{AllOf, all_set, all_got}
+use Rattle.mds_walk.proofs.Lists.{AllOf, all_set, all_got}
 use Rattle.mds_laws.proofs.OwnWriters.{IsCallOf}
 use Rattle.mds_moves.specs.MdsBinds.{AreCallsBehind, IsAnsweredBefore, IsAnswerKept, IsWrittenTo}
 use Rattle.mds_moves.proofs.WriterMirrors.{MirrorFailures, all_more, PacketsKept, answer_still, mirror_still, ids_in, ids_set}

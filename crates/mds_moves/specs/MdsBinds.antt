@@ -34,8 +34,8 @@ use Rattle.mirror_writer.specs.declared.call.WriterCall.TheVariants.{NoCall, Out
 use Rattle.mirror_writer.specs.Writers.{WriterMirror}
 use Rattle.mds_rule.specs.MdsStates.{WaitingWrite, ServedFile, MdsSend, CallsServer, MdsValue, new_mds}
 use Rattle.mds_rule.specs.Answers.{is_failure_of}
-use Rattle.mds_laws.specs.MdsRuns.{MdsEvent, after_event}
-use Rattle.mds_laws.proofs.Lists.{AllOf}
+use Rattle.mds_walk.specs.MdsRuns.{MdsEvent, after_event}
+use Rattle.mds_walk.proofs.Lists.{AllOf}
 use Rattle.mds_moves.specs.MdsMoves.{IsMdsOf, MayComeTo}
 
 -- ---- the machine, with its journal

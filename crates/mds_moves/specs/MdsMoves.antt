@@ -24,9 +24,9 @@ use Rattle.mds_rule.specs.declared.waiter.Waiter.{Waiter}
 use Rattle.mds_rule.specs.declared.waiter.Waiter.TheVariants.{ForFile, ForRead, ForWrite, ForRecall}
 use Rattle.mds_rule.specs.Spelled.{mds_name}
 use Rattle.mds_rule.specs.Answers.{attributes_shown, own_answer}
-use Rattle.mds_laws.specs.MdsRuns.{MdsInput, MdsEvent, Hears, IsTimedOut, Ticks, RecallsFile, Resilvers, after_event}
+use Rattle.mds_walk.specs.MdsRuns.{MdsInput, MdsEvent, Hears, IsTimedOut, Ticks, RecallsFile, Resilvers, after_event}
 use Rattle.mds_laws.specs.MdsRunLaws.{number_sent, AreBelow}
-use Rattle.mds_laws.proofs.Lists.{AllOf}
+use Rattle.mds_walk.proofs.Lists.{AllOf}
 use Rattle.mds_laws.proofs.Keeping.{is_read_call}
 
 -- ---- the server and the machine

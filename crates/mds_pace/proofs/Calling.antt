@@ -21,7 +21,7 @@ use Rattle.mds_rule.specs.declared.waiter.Waiter.{Waiter}
 use Rattle.mds_rule.specs.declared.waiter.Waiter.TheVariants.{ForRead, ForRecall}
 use Rattle.mds_rule.specs.Goes.{xid_after, calls_as, calls_server, OwnCall, own_by, place_of, own_call_at, own_next, has_xids, own_call, own_two, own_calls, read_goes, read_call, read_call_in, each, read_count, read_calls, stateid_seqid, calls_back, recall_goes, recall_call, repeats_call, repeats, place_calls, file_calls, calls_out}
 use Rattle.mds_laws.specs.MdsRunLaws.{number_sent}
-use Rattle.mds_laws.proofs.Lists.{in_with_call, found_in, found_passes}
+use Rattle.mds_walk.proofs.Lists.{in_with_call, found_in, found_passes}
 use Rattle.mds_progress.specs.TickLaw.{WasTaken}
 use Rattle.mds_pace.specs.MdsPace.{was_taken, went_before, record_of, kept_record}
 use Rattle.mds_pace.proofs.Taken.{IsFrom, from_after, not_both, some_number, taken_so, taken_is, new_so, one_new, one_again, both_again}

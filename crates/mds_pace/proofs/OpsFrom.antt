@@ -1,63 +1,45 @@
 -- A compound sends its reply alone, and takes no number of a call.
 use Rattle.std.proofs.Common.{◌≡◌, ℕ, Bool, true, false, List, [], ◌∷◌, ◌++◌, Option, Some, None, refl, sym, ap, subst, inl, inr}
-use Rattle.std.specs.Prelude.{not, ◌==◌, nat_eq, is_some, map}
-use Rattle.std.specs.List.{filter, find, list_any}
+use Rattle.std.specs.Prelude.{not, ◌==◌, map}
+use Rattle.std.specs.List.{filter, list_any}
 use Rattle.std.proofs.lemmas.Bool.{cond_both}
-use Rattle.ff_xdr.specs.Form.{Value, arm_of, long}
-use Rattle.ff_xdr.specs.Arms.{arm, of_each_arm}
+use Rattle.ff_xdr.specs.Form.{Value, arm_of}
 use Rattle.cluster_model.specs.Members.{IsOneOf}
 use Rattle.cluster_model.specs.declared.ids.NodeId.{NodeId}
 use Rattle.cluster_model.specs.declared.ids.FileId.{FileId}
-use Rattle.cluster_model.specs.declared.phase.EndCause.TheVariants.{ClientGone}
 use Rattle.cluster_model.specs.declared.entry.Entry.{Entry}
 use Rattle.file_rule.specs.MdsFiles.{FileStep}
 use Rattle.file_rule.specs.FilePhases.{Answers as IsAnswer, TimesOut, Sees, phase}
 use Rattle.mds_rows.specs.Draws.{drawn}
-use Rattle.nfs4_types.specs.declared.ids.SessionId.{SessionId}
 use Rattle.nfs4_types.specs.declared.sequence.Sequence.{Sequence}
-use Rattle.nfs4_types.specs.declared.status.Stat4.{Stat4}
 use Rattle.nfs4_types.specs.declared.status.Stat4.TheVariants as stat
-use Rattle.nfs4_types.specs.Channels.{channel_attrs4}
 use Rattle.nfs4_types.specs.Sequences.{sequence4_args}
-use Rattle.nfs4_session_ops.specs.BindConn.{bind_conn4_args}
-use Rattle.nfs4_session_ops.specs.ExchangeId.{exchange_id4_args}
-use Rattle.nfs4_session_ops.specs.CreateSession.{create_session4_args}
 use Rattle.nfs4_compound.specs.declared.stop.Stop.{Stop}
 use Rattle.nfs4_compound.specs.declared.stop.Stop.TheVariants as stop
 use Rattle.nfs4_compound.specs.Args.{argop4}
-use Rattle.nfs4_compound.specs.Results.{resop4}
 use Rattle.nfs4_compound.specs.Compounds.{CompoundValue}
-use Rattle.nfs4_session.specs.declared.begin.SlotPass.{SlotPass}
-use Rattle.nfs4_session.specs.declared.faults.Created.{Created}
-use Rattle.nfs4_session.specs.declared.faults.IdFault.{IdFault}
-use Rattle.nfs4_session.specs.declared.faults.SessionFault.{SessionFault}
-use Rattle.nfs4_session.specs.Clients.{SessionsState, has_id, client_in, session_of}
-use Rattle.nfs4_session.specs.ExchangeIds.{ExchangeCase, exchange_case, exchange_fault}
-use Rattle.nfs4_session.specs.CreateSessions.{CreateSessionCase, create_session_case, create_session_fault, created_answer, after_creating}
 use Rattle.nfs4_session.specs.Bindings.{after_binding}
-use Rattle.nfs4_session.specs.Ends.{without_client, destroy_client_fault}
 use Rattle.nfs4_session.specs.Slots.{SlotAnswer, TakesEffect, Repeats, Refuses}
 use Rattle.nfs4_session.specs.Requests.{request_answer, after_request}
 use Rattle.recall.specs.Recalls.{without_file}
 use Rattle.mds_rule.specs.MdsStates as mds
-use Rattle.mds_rule.specs.MdsStates.{CompoundRun, ServedFile, MdsSend, Replies, AwaitedCall, MdsValue, MdsStep, sends_none, and_then, with_call, with_served}
+use Rattle.mds_rule.specs.MdsStates.{CompoundRun, ServedFile, MdsSend, Replies, AwaitedCall, MdsValue, MdsStep, sends_none, and_then, with_served}
 use Rattle.mds_rule.specs.declared.waiter.Waiter.{Waiter}
-use Rattle.mds_rule.specs.OpSteps.{OpStep, Goes, Ends, Waits, with_result, refuses, refused_or, unread, stopped, is_operation_number}
-use Rattle.mds_rule.specs.ServedFiles.{is_period_end, file_behind, file_stepped, ends_client}
-use Rattle.mds_rule.specs.SessionOps.{with_exchange, runs_exchange, confirms, gone_with, goes_with, with_session, with_create, runs_create, on_session, runs_bind, runs_destroy_session, runs_destroy_client, reclaims}
-use Rattle.mds_rule.specs.FileOps.{runs_put_fh, runs_get_fh, runs_lookup, runs_get_attr, runs_open, runs_close, runs_commit, runs_read, runs_write}
-use Rattle.mds_rule.specs.LayoutOps.{runs_layout_get, runs_layout_return, runs_layout_commit, runs_get_device_info}
+use Rattle.mds_rule.specs.OpSteps.{OpStep, Goes, Ends, Waits, refuses, unread, stopped, is_operation_number}
+use Rattle.mds_rule.specs.ServedFiles.{is_period_end, file_behind, file_stepped}
 use Rattle.mds_rule.specs.Compounds.{operate, has_session, operates, op_then, with_ops, runs, sequence_in, in_slot, sequenced, sequence_of, may_stand_alone, first_alone, first_by, first_operation, new_run, runs_compound}
 use Rattle.mds_rule.specs.Answers.{own_answer}
 use Rattle.mds_rule.specs.Goes.{xid_after, calls_as, has_xids}
-use Rattle.mds_laws.proofs.Keeping.{KeepsOp, Cases, HeardAny}
-use Rattle.mds_laws.proofs.EachCases.{EachCase}
+use Rattle.mds_walk.proofs.Keeping.{KeepsOp}
+use Rattle.mds_laws.proofs.Keeping.{Cases}
+use Rattle.mds_walk.proofs.Parts.{HeardAny, AnyCompound, Parts}
+use Rattle.mds_laws.proofs.EachParts.{each_parts, each_runs}
 use Rattle.mds_laws.proofs.CasesOfEach.{each_case}
 use Rattle.mds_laws.proofs.Numbers.{WereSent, sent_more, sent_with, sent_kept}
-use Rattle.mds_laws.proofs.OpsWalk.{puts_fh, gets_fh, looks_up, gets_attr, opens, closes_file, commits, reads, writes, layout_gets, layout_returns, layout_commits, device_infos}
+use Rattle.mds_walk.proofs.CompoundWalk.{operate_walk, needs}
 use Rattle.mds_pace.specs.MdsPace.{went_before}
 use Rattle.mds_pace.proofs.Taken.{IsFrom, from_after, both_again, some_number}
-use Rattle.mds_pace.proofs.Still.{Still, still_same, client_still}
+use Rattle.mds_pace.proofs.Still.{Still}
 
 sent_of : (call : AwaitedCall) (calls : List AwaitedCall) → IsOneOf call calls → IsOneOf call.sent (map (λ (c : AwaitedCall). c.sent) calls)
 sent_of call [] inside = absurd inside
@@ -65,7 +47,7 @@ sent_of call (c ∷ calls) (inl is) = inl (ap (λ (x : AwaitedCall). x.sent) is)
 sent_of call (c ∷ calls) (inr inside) = inr (sent_of call calls inside)
 
 module _ (x : ℕ) where
-  -- ---- the operations on files leave the next number among those that were not taken
+  -- ---- the operations leave the next number among those that were not taken
 
   record IsBehind (next : ℕ) (calls : List AwaitedCall) (ss : List MdsSend) : Type 0 where
     from : IsFrom x next
@@ -109,8 +91,8 @@ module _ (x : ℕ) where
     again = λ m s es ss t inside. more_sent m.next_xid m.calls ss s t;
   }
 
-  k : EachCase IsSo HeardAny
-  k = each_case IsSo HeardAny cases
+  k : Parts IsSo HeardAny AnyCompound
+  k = each_parts IsSo HeardAny (each_case IsSo HeardAny cases)
 
   abbrev pub OpFrom : MdsValue → OpStep → Type 0
   OpFrom m (Goes n entries c) = IsFrom x m.next_xid → IsFrom x n.next_xid
@@ -125,60 +107,8 @@ module _ (x : ℕ) where
   by_walk m (Ends n entries c status) all = λ f. (all [] (map (λ (c : AwaitedCall). c.sent) m.calls) (all_sent m f)).from
   by_walk m (Waits n entries) all = λ f. (all [] (map (λ (c : AwaitedCall). c.sent) m.calls) (all_sent m f)).from
 
-  -- ---- the operations on clients and sessions
-
   from_still : (m : MdsValue) (s : MdsStep) → Still m s → IsFrom x m.next_xid → IsFrom x s.mds.next_xid
   from_still m s t f = subst (λ (n : ℕ). IsFrom x n) (sym t.number) f
-
-  unless_refused : (m : MdsValue) (c : CompoundRun) (number : ℕ) (status : Option Stat4) (step : OpStep) → OpFrom m step → OpFrom m (refused_or m c number status step)
-  unless_refused m c number None step q = q
-  unless_refused m c number (Some status) step q = λ f. f
-
-  exchange_from : (m : MdsValue) (c : CompoundRun) (verifier owner : List ℕ) (now : ℕ) (case : ExchangeCase) (fault : Option IdFault) → OpFrom m (with_exchange m c verifier owner now case fault)
-  exchange_from m c verifier owner now case None = λ f. f
-  exchange_from m c verifier owner now case (Some fault) = λ f. f
-
-  exchanges : (m : MdsValue) (c : CompoundRun) (now : ℕ) (args : Value exchange_id4_args) → OpFrom m (runs_exchange m c now args)
-  exchanges m c now (verifier, (owner, (flags, rest))) = exchange_from m c (long verifier) owner now (exchange_case m.sessions.clients (long verifier) owner) (exchange_fault m.sessions (exchange_case m.sessions.clients (long verifier) owner))
-
-  gone : (client : Option ℕ) (m : MdsValue) → Still m (gone_with client m)
-  gone None m = still_same m
-  gone (Some client) m = client_still m client ClientGone
-
-  session_from : (m : MdsValue) (c : CompoundRun) (client sequence : ℕ) (fore back : Value channel_attrs4) (sessions : SessionsState) (o : Option Created) → OpFrom m (with_session m c client sequence fore back sessions o)
-  session_from m c client sequence fore back sessions None = λ f. f
-  session_from m c client sequence fore back sessions (Some created) =
-      let n : MdsValue = confirms client c.node (record m { sessions = sessions }) in
-      λ f. from_still n (gone_with created.gone n) (gone created.gone n) f
-
-  create_from : (m : MdsValue) (c : CompoundRun) (client sequence : ℕ) (fore back : Value channel_attrs4) (program now : ℕ) (case : CreateSessionCase) (fault : Option SessionFault) → OpFrom m (with_create m c client sequence fore back program now case fault)
-  create_from m c client sequence fore back program now case (Some fault) = λ f. f
-  create_from m c client sequence fore back program now case None = session_from m c client sequence fore back (after_creating m.sessions program c.node now case) (created_answer m.sessions client case)
-
-  creates : (m : MdsValue) (c : CompoundRun) (now : ℕ) (args : Value create_session4_args) → OpFrom m (runs_create m c now args)
-  creates m c now (client, (sequence, (flags, (fore, (back, (program, security)))))) =
-      create_from m c client sequence fore back program now (create_session_case m.sessions client sequence) (create_session_fault (create_session_case m.sessions client sequence))
-
-  at_session : (m : MdsValue) (c : CompoundRun) (number : ℕ) (session : SessionId) (step : OpStep) → OpFrom m step → OpFrom m (on_session m c number session step)
-  at_session m c number session step q = cond_both (is_some (session_of m.sessions.clients session)) step (refuses m c number stat.BadSession) (λ (s : OpStep). OpFrom m s) (λ is. q) (λ off. λ f. f)
-
-  binds : (m : MdsValue) (c : CompoundRun) (args : Value bind_conn4_args) → OpFrom m (runs_bind m c args)
-  binds m c (session, (direction, rdma)) = at_session m c 41 (record { 0 = session }) _ (λ f. f)
-
-  destroys_session : (m : MdsValue) (c : CompoundRun) (session : List ℕ) → OpFrom m (runs_destroy_session m c session)
-  destroys_session m c session = at_session m c 44 (record { 0 = session }) _ (λ f. f)
-
-  destroys_client : (m : MdsValue) (c : CompoundRun) (client : ℕ) → OpFrom m (runs_destroy_client m c client)
-  destroys_client m c client =
-      let n : MdsValue = record m { sessions = without_client m.sessions client } in
-      unless_refused m c 57 (destroy_client_fault (find (has_id client) m.sessions.clients)) (goes_with (ends_client n client ClientGone) (with_result c (arm 57 resop4 (inl tt))))
-      (λ f. from_still n (ends_client n client ClientGone) (client_still n client ClientGone) f)
-
-  reclaims_all : (m : MdsValue) (c : CompoundRun) (slot : Option SlotPass) → OpFrom m (reclaims m c slot)
-  reclaims_all m c None = λ f. f
-  reclaims_all m c (Some slot) =
-      cond_both (list_any (nat_eq (client_in slot.session)) m.reclaimed) (refuses m c 58 stat.CompleteAlready)
-      (Goes (record m { reclaimed = m.reclaimed ++ client_in slot.session ∷ [] }) [] (with_result c (arm 58 resop4 (inl tt)))) (λ (s : OpStep). OpFrom m s) (λ is. λ f. f) (λ off. λ f. f)
 
   -- ---- steps
 
@@ -213,68 +143,7 @@ module _ (x : ℕ) where
   stop_from m c (stop.Bad e) = λ f. f
 
   operate_from : (now : ℕ) (m : MdsValue) (c : CompoundRun) (op : Value argop4) → OpFrom m (operate now m c op)
-  operate_from now m c op =
-      of_each_arm argop4 (λ (v : Value argop4). OpFrom m (operate now m c v)) (
-        (λ close. by_walk m (runs_close m c close) (closes_file IsSo HeardAny k m c close)),
-        (
-          (λ commit. by_walk m (runs_commit m c) (commits IsSo HeardAny k m c)),
-          (
-            (λ words. by_walk m (runs_get_attr m c words) (gets_attr IsSo HeardAny k m c words)),
-            (
-              (λ nothing. by_walk m (runs_get_fh m c) (gets_fh IsSo HeardAny k m c)),
-              (
-                (λ name. by_walk m (runs_lookup m c name) (looks_up IsSo HeardAny k m c name)),
-                (
-                  (λ opening. by_walk m (runs_open m c opening) (opens IsSo HeardAny k m c opening)),
-                  (
-                    (λ handle. by_walk m (runs_put_fh m c handle) (puts_fh IsSo HeardAny k m c handle)),
-                    (
-                      (λ nothing. λ f. f),
-                      (
-                        (λ read. by_walk m (runs_read m c read) (reads IsSo HeardAny k m c read)),
-                        (
-                          (λ write. by_walk m (runs_write m c now write) (writes IsSo HeardAny k m c now write)),
-                          (
-                            (λ bind. binds m c bind),
-                            (
-                              (λ exchange. exchanges m c now exchange),
-                              (
-                                (λ create. creates m c now create),
-                                (
-                                  (λ session. destroys_session m c session),
-                                  (
-                                    (λ device. by_walk m (runs_get_device_info m c device) (device_infos IsSo HeardAny k m c device)),
-                                    (
-                                      (λ commit. by_walk m (runs_layout_commit m c commit) (layout_commits IsSo HeardAny k m c commit)),
-                                      (
-                                        (λ layout. by_walk m (runs_layout_get m c now layout) (layout_gets IsSo HeardAny k m c now layout)),
-                                        (
-                                          (λ layout. by_walk m (runs_layout_return m c layout) (layout_returns IsSo HeardAny k m c layout)),
-                                          (
-                                            (λ sequence. λ f. f),
-                                            (
-                                              (λ client. destroys_client m c client),
-                                              ((λ one_fs. reclaims_all m c c.slot), tt),
-                                            ),
-                                          ),
-                                        ),
-                                      ),
-                                    ),
-                                  ),
-                                ),
-                              ),
-                            ),
-                          ),
-                        ),
-                      ),
-                    ),
-                  ),
-                ),
-              ),
-            ),
-          ),
-        ),
-      ) op
+  operate_from now m c op = by_walk m (operate now m c op) (operate_walk IsSo HeardAny AnyCompound k now m c op (needs IsSo HeardAny AnyCompound k (each_runs IsSo HeardAny (each_case IsSo HeardAny cases)) (λ d. tt) c op))
 
   operates_from : (now : ℕ) (m : MdsValue) (c : CompoundRun) (op : Value argop4) → OpFrom m (operates now m c op)
   operates_from now m c op = cond_both (has_session m c.slot) (operate now m c op) (refuses m c (arm_of argop4 op) stat.BadSession) (λ (s : OpStep). OpFrom m s) (λ is. operate_from now m c op) (λ off. λ f. f)

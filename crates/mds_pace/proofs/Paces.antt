@@ -16,7 +16,7 @@ use Rattle.mds_rule.specs.Compounds.{runs_compound}
 use Rattle.mds_rule.specs.Answers.{is_awaited, takes_answer, timed_out_for}
 use Rattle.mds_rule.specs.Goes.{each, calls_out}
 use Rattle.mds_rule.specs.Events.{takes_incoming, late_call, is_kept_by, goes_again, times_out, kept_calls}
-use Rattle.mds_laws.specs.MdsRuns.{MdsInput, Hears, IsTimedOut, Ticks, RecallsFile, Resilvers}
+use Rattle.mds_walk.specs.MdsRuns.{MdsInput, Hears, IsTimedOut, Ticks, RecallsFile, Resilvers}
 use Rattle.mds_progress.specs.TickLaw.{ends_with}
 use Rattle.mds_progress.proofs.Ticked.{each_length}
 use Rattle.mds_pace.specs.MdsPace.{went_before, repeats_in, IsOneAtMost, IsOfLate, kept_record, kept_records, NumbersTaken, RepeatsKept, PacesEvent}

@@ -7,7 +7,7 @@ use Rattle.cluster_model.specs.declared.ids.NodeId.TheVariants.{Server}
 use Rattle.mds_activity.specs.FileCalls.{kept_out}
 use Rattle.mds_rule.specs.MdsStates.{ServedFile, MdsSend, AwaitedCall, MdsValue, MdsStep, is_call_to}
 use Rattle.mds_rule.specs.Events.{late_call, takes_tick}
-use Rattle.mds_laws.specs.MdsRuns.{MdsInput, Hears, IsTimedOut, Ticks, RecallsFile, Resilvers, by_input}
+use Rattle.mds_walk.specs.MdsRuns.{MdsInput, Hears, IsTimedOut, Ticks, RecallsFile, Resilvers, by_input}
 use Rattle.mds_laws.specs.MdsRunLaws.{number_sent}
 use Rattle.mds_progress.specs.TickLaw.{behind_ends, WasTaken}
 

@@ -3,7 +3,7 @@
 ghost use Rattle.std.specs.Prelude.{List, ℕ};
 ghost use Rattle.device_addr.specs.Universal.{AddressValue};
 ghost use Rattle.mds_rule.specs.MdsStates.{MdsValue};
-ghost use Rattle.mds_laws.specs.MdsRuns.{MdsInput, MdsEvent, mds_run};
+ghost use Rattle.mds_walk.specs.MdsRuns.{MdsInput, MdsEvent, mds_run};
 ghost use Rattle.mds_pace.specs.MdsPace.{NumbersTaken, PacesEvent, RepeatsKept};
 
 /// Whatever a metadata server has, whenever it is and whatever comes, the record of a call that went before goes out

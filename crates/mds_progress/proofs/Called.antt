@@ -15,7 +15,7 @@ use Rattle.cluster_model.specs.declared.fence_mirror.FenceMirror.{FenceMirror}
 use Rattle.cluster_model.specs.DsCalls.{DsCallValue, Read}
 use Rattle.cluster_model.specs.Fences.{waits, is_out, FenceState, with_stage, waiting_at, fence_call_at, call_from}
 use Rattle.copy_rule.specs.declared.copy_target.CopyTarget.{CopyTarget}
-use Rattle.copy_rule.specs.Copies.{CopyState, have_answered}
+use Rattle.copy_rule.specs.Copies.{CopyState, may_read_on}
 use Rattle.copy_rule.specs.Copies as copy
 use Rattle.file_rule.specs.declared.creation.Creation.{Creation}
 use Rattle.file_rule.specs.MdsFiles.{Creations, Activity, Idle, Makes, Fences, Settles, Copies, MdsFile, in_stage}
@@ -110,7 +110,7 @@ target_goes f c xid place (Some t) at =
     (any_here (λ (u : CopyTarget). u.server == t.server && is_out xid u.stage) c.targets place (copy.at_stage t (Out xid 0)) t at (both_true t.server xid))
 
 copy_goes : (f : MdsFile) (c : CopyState) (xid : ℕ) (o : Option ℕ) → GoesOut xid (copy_out f (copy.call_from c xid o))
-copy_goes f c xid None = by_test (waits c.read && have_answered c)
+copy_goes f c xid None = by_test (waits c.read && may_read_on c)
   where
     by_test : (b : Bool) → GoesOut xid (copy_out f (if b then Some (record { copy = copy.with_read c (Out xid 0); server = c.source.server; uid = 0; call = Read c.source.fileid c.at PIECE_SIZE }) else None))
     by_test true = or_right (list_any (λ (t : CopyTarget). t.server == c.source.server && is_out xid t.stage) c.targets) ((c.source.server == c.source.server) && (xid == xid)) (both_true c.source.server xid)
@@ -164,7 +164,7 @@ target_stays server own f c xid place is (Some t) at =
     (not_out_there (t.server == server) own t.stage (at_position (λ (u : CopyTarget). waits u.stage) c.targets place t is at)))
 
 copy_stays : (server own : ℕ) (f : MdsFile) (c : CopyState) (xid : ℕ) (o : Option ℕ) → copy.waiting_at c ≡ o → KeepsOut server own f (Copies c) (copy_out f (copy.call_from c xid o))
-copy_stays server own f c xid None is = by_test (waits c.read) refl (have_answered c)
+copy_stays server own f c xid None is = by_test (waits c.read) refl (may_read_on c)
   where
     by_test : (w : Bool) → waits c.read ≡ w → (b : Bool) → KeepsOut server own f (Copies c) (copy_out f (if w && b then Some (record { copy = copy.with_read c (Out xid 0); server = c.source.server; uid = 0; call = Read c.source.fileid c.at PIECE_SIZE }) else None))
     by_test true its true =

@@ -12,7 +12,7 @@ use Rattle.call_stage.specs.KeptCalls.{is_kept_out, kept_out_to}
 use Rattle.cluster_model.specs.declared.limits.TheConstants.{PIECE_SIZE}
 use Rattle.cluster_model.specs.DsCalls.{Read}
 use Rattle.copy_rule.specs.declared.copy_target.CopyTarget.{CopyTarget}
-use Rattle.copy_rule.specs.Copies.{CopyState, CopyCall, have_answered}
+use Rattle.copy_rule.specs.Copies.{CopyState, CopyCall, may_read_on}
 use Rattle.copy_rule.specs.Copies as copy
 use Rattle.file_rule.specs.declared.creation.Creation.{Creation}
 use Rattle.file_rule.specs.MdsFiles.{Creations, Activity, Idle, Makes, Fences, Settles, Copies, MdsFile, in_stage}
@@ -135,7 +135,7 @@ target_keeps f c xid place None none = tt
 target_keeps f c xid place (Some t) none = none
 
 copy_keeps : (f : MdsFile) (c : CopyState) (xid : ℕ) (o : Option ℕ) → is_kept_out c.read ≡ false → OutKeeps (copy_out f (copy.call_from c xid o))
-copy_keeps f c xid None none = by_test (waits c.read && have_answered c)
+copy_keeps f c xid None none = by_test (waits c.read && may_read_on c)
   where
     by_test : (b : Bool) → OutKeeps (copy_out f (if b then Some (record { copy = copy.with_read c (Out xid 0); server = c.source.server; uid = 0; call = Read c.source.fileid c.at PIECE_SIZE }) else None))
     by_test true = refl

@@ -26,13 +26,12 @@ use Rattle.recall.specs.declared.recall.Recall.{Recall}
 use Rattle.recall.specs.Recalls.{is_out_as, out_at}
 use Rattle.cluster_laws.proofs.Invariant.{is_idle, kept_ids}
 use Rattle.cluster_laws.proofs.FewMirrors.{adds, HasRoom}
-use Rattle.mds_laws.specs.MdsRuns.{MdsEvent, Ticks as IsTick, mds_run}
-use Rattle.mds_laws.proofs.Keeping.{HeardAny, hears_any}
+use Rattle.mds_walk.specs.MdsRuns.{MdsEvent, Ticks as IsTick, mds_run}
+use Rattle.mds_walk.proofs.Parts.{HeardAny, AnyCompound}
+use Rattle.mds_walk.proofs.Keeping.{hears_any}
 use Rattle.mds_laws.proofs.GoesWalk.{each_event, behind_each_run}
 use Rattle.mds_rule.specs.Events.{takes_tick}
 use Rattle.mds_progress.proofs.Awaits.{awaits_each}
-use Rattle.mds_walk.proofs.Parts.{HeardAny as AnyHeard}
-use Rattle.mds_walk.proofs.Keeping.{hears_any as any_hears}
 use Rattle.mds_walk.proofs.Lists.{in_filtered}
 use Rattle.mds_walk.proofs.TableKept.{new_table}
 use Rattle.mds_walk.proofs.EventWalk.{event_walk, in_each_run}
@@ -49,7 +48,7 @@ use Rattle.mds_quiet.proofs.OwnCalls.{FoundOff, found_off}
 use Rattle.mds_quiet.proofs.Standing.{WritesThere, added_size}
 use Rattle.mds_quiet.proofs.Turns.{TurnsOf, TakesTurns}
 use Rattle.mds_quiet.proofs.RunsStand.{Fits, IsSo, cases, begun, each_fits}
-use Rattle.mds_quiet.proofs.TableRises.{CallsRise, filter_rises, Rising, rising_parts, rising_calls, rising_begins}
+use Rattle.mds_quiet.proofs.TableRises.{CallsRise, filter_rises, Rising, rising_whole}
 
 -- ---- numbers that are out
 
@@ -320,8 +319,8 @@ ticks_leave_few servers mirrors events now few there =
     let tick : MdsEvent = record { now = now; input = IsTick } in
     let step : MdsStep = takes_tick now run.mds in
     let n : MdsValue = step.mds in
-    let before : Rising run.mds run.entries run.sends = in_each_run Rising rising_parts rising_calls rising_begins (new_mds servers mirrors) events (new_table, tt) in
-    let rising : Rising n (run.entries ++ step.entries) (run.sends ++ step.sends) = event_walk Rising AnyHeard rising_parts rising_calls rising_begins tick (any_hears Rising IsTick) run.mds run.entries run.sends before in
+    let before : Rising run.mds run.entries run.sends = in_each_run Rising AnyCompound rising_whole (new_mds servers mirrors) events (new_table, tt) in
+    let rising : Rising n (run.entries ++ step.entries) (run.sends ++ step.sends) = event_walk Rising HeardAny AnyCompound rising_whole tick (hears_any Rising IsTick) run.mds run.entries run.sends before in
     let stood : IsSo run.mds run.entries run.sends = behind_each_run IsSo cases (λ m request moment es ss i. i) (new_mds servers mirrors) events (begun servers mirrors few there) in
     let stands : IsSo n (run.entries ++ step.entries) (run.sends ++ step.sends) = each_event IsSo HeardAny cases (λ m request moment es ss i. i) tick (hears_any IsSo IsTick) run.mds run.entries run.sends stood in
     let awaits : (call : AwaitedCall) → IsOneOf call n.calls → is_awaited n call ≡ true = awaits_each now run.mds in

@@ -35,7 +35,7 @@ use Rattle.cluster_model.specs.Phases.{ids_of, but_for, is_last_live, with_phase
 use Rattle.copy_rule.specs.declared.copy_target.CopyTarget.{CopyTarget}
 use Rattle.copy_rule.specs.declared.copy_target.CopyStep.{CopyStep}
 use Rattle.copy_rule.specs.declared.copy_target.CopyStep.TheVariants as copy_step
-use Rattle.copy_rule.specs.Copies.{CopyState, CopyCall, to_make, have_answered, has_outcome, swaps_of, target_call_at}
+use Rattle.copy_rule.specs.Copies.{CopyState, CopyCall, to_make, may_read_on, has_outcome, swaps_of, target_call_at}
 use Rattle.copy_rule.specs.Copies as copy
 use Rattle.file_rule.specs.declared.creation.Creation.{Creation}
 use Rattle.file_rule.specs.declared.fresh.Fresh.{Fresh}
@@ -342,7 +342,7 @@ module _ (f : MdsFile) (i : IsOrdered f) where
       record { apart = i.apart; busy = targets_set f.layout.live c.targets place t (copy.at_stage t (Out xid 0)) at refl refl (λ its. its) (waits_left t.stage waiting) busy }
 
   copy_out_ord : (c : CopyState) (xid : ℕ) (o : Option ℕ) → copy.waiting_at c ≡ o → AreTargets f.layout.live c.targets → OutOrd (copy_out f (copy.call_from c xid o))
-  copy_out_ord c xid None is busy = cond_both (waits c.read && have_answered c) (Some _) None (λ (x : Option CopyCall). OutOrd (copy_out f x)) (λ due. record { apart = i.apart; busy = busy }) (λ off. tt)
+  copy_out_ord c xid None is busy = cond_both (waits c.read && may_read_on c) (Some _) None (λ (x : Option CopyCall). OutOrd (copy_out f x)) (λ due. record { apart = i.apart; busy = busy }) (λ off. tt)
   copy_out_ord c xid (Some place) is busy = target_out c xid place (found_off (λ (t : CopyTarget). waits t.stage) c.targets place is) (slice_get c.targets place) refl busy
 
   out_of_ord : (xid : ℕ) (a : Activity) → IsBusy f.layout.live a → OutOrd (call_out_of f xid a)

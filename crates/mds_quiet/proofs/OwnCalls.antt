@@ -1,6 +1,6 @@
 -- What a call of a file's own that goes out leaves of those that wait: it was the first, and the others stay in their order.
 use Rattle.std.proofs.Common.{◌≡◌, ℕ, zero, suc, ◌+◌, Bool, true, false, cond, List, [], ◌∷◌, map, filter, Option, Some, None, refl, sym, ap, subst, ◌∙◌, arith}
-use Rattle.std.specs.Prelude.{◌&&◌, if◌then◌else◌, slice_get, slice_set}
+use Rattle.std.specs.Prelude.{not, ◌&&◌, if◌then◌else◌, slice_get, slice_set}
 use Rattle.std.specs.Option.{option_map}
 use Rattle.std.specs.List.{position, position_from, list_all}
 use Rattle.std.proofs.lemmas.Iterator.Adapters.{position_from-zero}
@@ -13,7 +13,7 @@ use Rattle.cluster_model.specs.declared.fence_mirror.FenceMirror.{FenceMirror}
 use Rattle.cluster_model.specs.DsCalls.{DsCallValue, Read}
 use Rattle.cluster_model.specs.Fences.{waits, is_over, FenceState, with_stage, waiting_at, fence_call_at, call_from}
 use Rattle.copy_rule.specs.declared.copy_target.CopyTarget.{CopyTarget}
-use Rattle.copy_rule.specs.Copies.{CopyState, CopyCall, have_answered, with_target, with_read, target_call_at}
+use Rattle.copy_rule.specs.Copies.{CopyState, CopyCall, have_answered, has_outcome, may_read_on, with_target, with_read, target_call_at}
 use Rattle.copy_rule.specs.Copies as copy
 use Rattle.file_rule.specs.declared.creation.Creation.{Creation}
 use Rattle.file_rule.specs.MdsFiles.{Creations, Activity, Idle, Makes, Fences, Settles, Copies, MdsFile, in_stage}
@@ -119,7 +119,7 @@ commit_first f xid live false = refl
 -- where a target has not answered, the servers are those of the targets
 copy_unanswered : (c : CopyState) → have_answered c ≡ false → (o : Option ℕ) → copy.waiting_at c ≡ o → servers_from c o ≡ map (λ (t : CopyTarget). t.server) (filter (λ (t : CopyTarget). waits t.stage) c.targets)
 copy_unanswered c off None is =
-    ap (λ (b : Bool). if waits c.read && b then c.source.server ∷ [] else []) off ∙ none_due (waits c.read) ∙ sym (ap (map (λ (t : CopyTarget). t.server)) (none_found (λ (t : CopyTarget). waits t.stage) c.targets is))
+    ap (λ (b : Bool). if waits c.read && (b && not (has_outcome c)) then c.source.server ∷ [] else []) off ∙ none_due (waits c.read) ∙ sym (ap (map (λ (t : CopyTarget). t.server)) (none_found (λ (t : CopyTarget). waits t.stage) c.targets is))
   where
     none_due : (b : Bool) → (if b && false then c.source.server ∷ [] else []) ≡ []
     none_due true = refl
@@ -149,7 +149,7 @@ target_first f c xid place found (Some t) at =
     )
 
 copy_first : (f : MdsFile) (c : CopyState) (xid : ℕ) (o : Option ℕ) → copy.waiting_at c ≡ o → TakesFirst f (servers_from c o) (copy_out f (copy.call_from c xid o))
-copy_first f c xid None is = by_test (waits c.read && have_answered c)
+copy_first f c xid None is = by_test (waits c.read && may_read_on c)
   where
     d : CopyState
     d = with_read c (Out xid 0)

@@ -35,9 +35,9 @@ use Rattle.mds_rule.specs.FileOps.{servers_of, new_served, with_new_file, with_r
 use Rattle.mds_rule.specs.LayoutOps.{with_holder, client_number}
 use Rattle.mds_rule.specs.Answers.{own_answer, recall_end, write_stepped}
 use Rattle.cluster_laws.proofs.Invariant.{is_idle}
-use Rattle.mds_walk.proofs.Parts.{HeardAny, heard_by, end_input, without_write, with_read_at, Parts, Calls, KeepsBegin}
+use Rattle.mds_walk.proofs.Parts.{HeardAny, heard_by, end_input, without_write, with_read_at, Parts, Calls, KeepsBegin, AnyCompound, any_wait, RunParts, GivesAnswers, OutParts, EventParts}
 use Rattle.mds_walk.proofs.Served.{place_served, served_again, stepped_there}
-use Rattle.mds_walk.proofs.TableKept.{Table, table_parts, table_calls, new_table}
+use Rattle.mds_walk.proofs.TableKept.{Table, table_parts, table_calls, new_table, table_runs, table_answers, table_outs}
 use Rattle.mds_progress.proofs.Resent.{within}
 use Rattle.mds_quiet.specs.Resting.{RecallsRise, AreRecallsInOrder}
 use Rattle.mds_quiet.proofs.Parts.{IsPart}
@@ -323,20 +323,17 @@ makes m name i = record {
 
 -- ---- the cases
 
-pub parts : Parts IsSo HeardAny
+pub parts : Parts IsSo HeardAny AnyCompound
 parts = record {
+  wait = λ m es ss j file s there. any_wait s.reads s.write;
   opens = λ m client file es ss j. j;
   closes = λ m client file es ss j. j;
-  confirmed = λ m client node es ss j. j;
   reclaims = λ m client es ss j. j;
   gone = λ m client es ss j. j;
   tables = λ m move no es ss j. j;
   asks_recall = λ m file s n recalled client now there held off es ss j. (j.0, asked m file s n recalled client now there held off j.1);
   times_recall = λ m xid out es ss j. (j.0, fewer m (after_timeout m.recalls xid).recalls (timeout_less m.recalls xid) j.1);
   ticks_recalls = λ m now es ss j. (j.0, fewer m (after_tick m.recalls now).recalls (tick_less m.recalls now) j.1);
-  finishes = λ m pass bytes es ss j. j;
-  replies = λ m node xid bytes es ss j. (table_parts.replies m node xid bytes es ss j.0, j.1);
-  answers = λ m node bytes reply is es ss j. (table_parts.answers m node bytes reply is es ss j.0, j.1);
   later = λ m file p es ss j. j;
   sizes = λ m file s server fileid size there es ss j. (j.0, put_case m file s there (record s { sizes = with_size (record { server = server; fileid = fileid }) size s.sizes }) refl j.1);
   gives_again = λ m file s client there its es ss j. (j.0, put_case m file s there (with_holder client true s) refl j.1);
@@ -347,25 +344,36 @@ parts = record {
       ));
   grants_alone = λ m file s client n from there free left spent es ss j. (j.0, put_case m file s there (with_holder client false s) refl j.1);
   inputs = λ m file s input unasked there fresh es ss j. (table_parts.inputs m file s input unasked there fresh es ss j.0, input_case m file s there input j.1);
-  returns = λ m file s errors there fresh es ss j.
-      (table_parts.returns m file s errors there fresh es ss j.0, input_case m file s there (Returns (client_number (holder_of s.file.layout.phase)) s.file.layout.cred (report_of errors s.file.layout.live)) j.1);
   timeouts = λ m file s node xid out there fresh es ss j. (table_parts.timeouts m file s node xid out there fresh es ss j.0, input_case m file s there (TimesOut xid) j.1);
   learns = λ m file s call server own uid c replies fileid shown heard caller sent named shows there fresh es ss j. (j.0, input_case m file s there (Sees (record { server = server; fileid = fileid }) shown.seen) j.1);
-  begins_read = λ m file s c at count there es ss j. (j.0, put_case m file s there (with_read c at count s) refl j.1);
+  begins_read = λ m file s c at count any there es ss j. (j.0, put_case m file s there (with_read c at count s) refl j.1);
   times_read = λ m file s xid place r at on es ss j. (j.0, put_case m file s at.there (with_read_at s place r (read.after_timeout r.read xid).read) refl j.1);
   loses_read = λ m file s xid place r e at over es ss j. (j.0, put_case m file s at.there (record s { reads = remove s.reads place }) refl j.1);
-  begins_write = λ m file s c at bytes there can fresh es ss j.
+  begins_write = λ m file s c at bytes any there can fresh es ss j.
       (let step : FileStep = phase file s.file (OwnWrite at bytes) m.fresh in (
-        table_parts.begins_write m file s c at bytes there can fresh es ss j.0,
+        table_parts.begins_write m file s c at bytes any there can fresh es ss j.0,
         put_case (file_stepped m file s step).mds file (file_behind s step) (stepped_there m file s step there) (with_write c at bytes (file_behind s step)) refl (input_case m file s there (OwnWrite at bytes) j.1),
       ));
-  begins_alone = λ m file s c at bytes there can spent es ss j. (j.0, put_case m file s there (with_write c at bytes s) refl j.1);
+  begins_alone = λ m file s c at bytes any there can spent es ss j. (j.0, put_case m file s there (with_write c at bytes s) refl j.1);
   times_write = λ m file s w xid there waits out es ss j. (j.0, put_case m file s there (record s { write = Some (write_stepped w (writer.after_timeout w.writer xid)) }) refl j.1);
   ends_write = λ m file s w places there waits over fresh es ss j.
       (table_parts.ends_write m file s w places there waits over fresh es ss j.0, input_case (with_served m file (without_write s)) file (without_write s) (served_again m file s (without_write s) there) (end_input s w) (put_case m file s there (without_write s) refl j.1));
   drops_write = λ m file s w places there waits over spent es ss j. (j.0, put_case m file s there (without_write s) refl j.1);
   makes = λ m name may es ss j. (j.0, makes m name j.1);
 }
+
+pub runs : RunParts IsSo
+runs = record {
+  confirmed = λ m client node es ss j. j;
+  destroys = λ m session es ss j. j;
+  returns = λ m file s errors there fresh es ss j.
+      (table_runs.returns m file s errors there fresh es ss j.0, input_case m file s there (Returns (client_number (holder_of s.file.layout.phase)) s.file.layout.cred (report_of errors s.file.layout.live)) j.1);
+  replies = λ m node xid bytes es ss j. (table_runs.replies m node xid bytes es ss j.0, j.1);
+  finishes = λ m pass bytes es ss j. j;
+}
+
+pub answers : GivesAnswers IsSo
+answers m node bytes reply is es ss j = (table_answers m node bytes reply is es ss j.0, j.1)
 
 out_on : (s : ServedFile) (xid : ℕ) (c : CallOut) → call_out s.file xid ≡ Some c → IsClients s.file.layout.phase → IsHeldOn s.file c.file
 out_on s xid c is clients =
@@ -374,7 +382,7 @@ out_on s xid c is clients =
 
 pub calls : Calls IsSo HeardAny
 calls = record {
-  fits = λ m es ss j. table_calls.fits m es ss j.0;
+  fits = λ m es ss j call inside. inl (j.0.waiters call inside);
   hears = λ m node xid file s call c replies heard its there out fresh es ss j.
       (table_calls.hears m node xid file s call c replies heard its there out fresh es ss j.0, input_case (heard_by node xid m) file s there (IsAnswer xid (own_answer c (replies c))) j.1);
   unheard = λ m node xid file s call c its there spent es ss j. (table_calls.unheard m node xid file s call c its there spent es ss j.0, j.1);
@@ -388,22 +396,30 @@ calls = record {
       (table_calls.hears_recall m node xid status call found its out es ss j.0, fewer m (after_reply m.recalls xid (recall_end status)).recalls (reply_less m.recalls xid (recall_end status)) j.1);
   leaves = λ m node xid call inside its off es ss j. (table_calls.leaves m node xid call inside its off es ss j.0, j.1);
   forgets = λ m es ss j. (table_calls.forgets m es ss j.0, j.1);
+  late = λ m call inside is es ss j. j;
+  again = λ m call inside is es ss j. (table_calls.again m call inside is es ss j.0, j.1);
+}
+
+pub outs : OutParts IsSo
+outs = record {
   calls_file = λ m file s out there has idle its es ss j. (
-    table_calls.calls_file m file s out there has idle its es ss j.0,
+    table_outs.calls_file m file s out there has idle its es ss j.0,
     put_files m file s (record s { file = out.file }) there (out_on s m.next_xid out its) (out_agrees s.file m.next_xid out (its_agrees m file s there j.1.agree) its) j.1,
   );
   calls_write = λ m file s w out there has waits its es ss j.
-      (table_calls.calls_write m file s w out there has waits its es ss j.0, put_case m file s there (record s { write = Some (record w { writer = out.writer }) }) refl j.1);
-  calls_read = λ m file s place r out there has at its es ss j. (table_calls.calls_read m file s place r out there has at its es ss j.0, put_case m file s there (with_read_at s place r out.read) refl j.1);
-  calls_back = λ m sent session has its es ss j. (table_calls.calls_back m sent session has its es ss j.0, fewer m sent.recalls (sent_less m.recalls m.next_xid sent its) j.1);
-  skips = λ m sent has its es ss j. (table_calls.skips m sent has its es ss j.0, fewer m sent.recalls (sent_less m.recalls m.next_xid sent its) j.1);
-  late = λ m call inside is es ss j. j;
-  again = λ m call inside is es ss j. (table_calls.again m call inside is es ss j.0, j.1);
-  repeats = λ m server xid call found es ss j. (table_calls.repeats m server xid call found es ss j.0, j.1);
+      (table_outs.calls_write m file s w out there has waits its es ss j.0, put_case m file s there (record s { write = Some (record w { writer = out.writer }) }) refl j.1);
+  calls_read = λ m file s place r out there has at its es ss j. (table_outs.calls_read m file s place r out there has at its es ss j.0, put_case m file s there (with_read_at s place r out.read) refl j.1);
+  calls_back = λ m sent session has its es ss j. (table_outs.calls_back m sent session has its es ss j.0, fewer m sent.recalls (sent_less m.recalls m.next_xid sent its) j.1);
+  skips = λ m sent has its es ss j. (table_outs.skips m sent has its es ss j.0, fewer m sent.recalls (sent_less m.recalls m.next_xid sent its) j.1);
+  back = λ m client es ss j. j;
+  repeats = λ m server xid call found es ss j. (table_outs.repeats m server xid call found es ss j.0, j.1);
 }
 
 pub begins : KeepsBegin IsSo
 begins m request now es ss j = j
+
+pub whole : EventParts IsSo HeardAny AnyCompound
+whole = record { parts = parts; runs = runs; any = λ c. tt; answers = answers; calls = calls; outs = outs; begins = begins }
 
 pub begun : (servers : List AddressValue) (mirrors : ℕ) → IsSo (new_mds servers mirrors) [] []
 begun servers mirrors = (new_table, record { held = tt; rise = tt; agree = λ place s got. absurd (none-some s got) })

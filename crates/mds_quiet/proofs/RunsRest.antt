@@ -7,7 +7,7 @@ use Rattle.cluster_model.proofs.Elements.{slice_get-set_same}
 use Rattle.device_addr.specs.Universal.{AddressValue}
 use Rattle.cluster_model.specs.declared.entry.Entry.{Entry}
 use Rattle.cluster_model.specs.declared.ids.NodeId.{NodeId}
-use Rattle.file_rule.specs.FilePhases.{Resilver}
+use Rattle.file_rule.specs.FilePhases.{Resilver, Ticks}
 use Rattle.mds_receive.specs.MdsReceive.{IncomingValue, PassedOver, IsReply, IsAnswered, IsCompound, incoming_of}
 use Rattle.recall_calls.specs.RecallAnswers.{recall_status}
 use Rattle.ds_calls.specs.GivenReplies.{reply_of_call}
@@ -17,12 +17,10 @@ use Rattle.mds_rule.specs.ServedFiles.{takes_input, asks_back}
 use Rattle.mds_rule.specs.Answers.{is_awaited, takes_answer, timed_out_for}
 use Rattle.mds_rule.specs.Goes.{each, file_calls, calls_out}
 use Rattle.mds_rule.specs.Events.{takes_incoming, goes_again, times_out, late_call, leases_end, recalls_expire, kept_calls}
-use Rattle.file_rule.specs.FilePhases.{Ticks}
-use Rattle.mds_laws.specs.MdsRuns.{MdsInput, Hears, IsTimedOut, Ticks as IsTick, RecallsFile, Resilvers, MdsEvent, by_input, after_event, run_from}
-use Rattle.mds_laws.proofs.Keeping.{HeardAny, hears_any}
+use Rattle.mds_walk.specs.MdsRuns.{MdsInput, Hears, IsTimedOut, Ticks as IsTick, RecallsFile, Resilvers, MdsEvent, by_input, after_event, run_from}
+use Rattle.mds_walk.proofs.Parts.{HeardAny, AnyCompound}
+use Rattle.mds_walk.proofs.Keeping.{hears_any}
 use Rattle.mds_laws.proofs.GoesWalk.{each_event}
-use Rattle.mds_walk.proofs.Parts.{HeardAny as AnyHeard}
-use Rattle.mds_walk.proofs.Keeping.{hears_any as any_hears}
 use Rattle.mds_walk.proofs.EventWalk.{event_walk}
 use Rattle.recall.specs.declared.recall.Recall.{Recall}
 use Rattle.recall.specs.declared.recall.RecallStage.TheVariants.{Out}
@@ -154,7 +152,7 @@ run_recalls : (events : List MdsEvent) (m : MdsValue) (es : List Entry) (ss : Li
 run_recalls [] m es ss i p = p
 run_recalls (e ∷ events) m es ss i p =
     let step : MdsStep = after_event e m in
-    let next : recall.IsSo step.mds (es ++ step.entries) (ss ++ step.sends) = event_walk recall.IsSo AnyHeard recall.parts recall.calls recall.begins e (any_hears recall.IsSo e.input) m es ss i in
+    let next : recall.IsSo step.mds (es ++ step.entries) (ss ++ step.sends) = event_walk recall.IsSo HeardAny AnyCompound recall.whole e (hears_any recall.IsSo e.input) m es ss i in
     run_recalls events step.mds (es ++ step.entries) (ss ++ step.sends) next (recalls_event e.now e.input m p (recall.in_order step.mds (es ++ step.entries) (ss ++ step.sends) next))
 
 pub recalls_rest : (servers : List AddressValue) (mirrors : ℕ) (events : List MdsEvent) → RunsRestRecalls servers mirrors events

@@ -28,9 +28,9 @@ use Rattle.cluster_laws.proofs.Invariant.{are_apart}
 use Rattle.cluster_laws.proofs.Invariant as inv
 use Rattle.cluster_laws.proofs.FewMirrors.{FileHasFew}
 use Rattle.cluster_laws.proofs.FewSteps.{phase_few, out_few}
-use Rattle.mds_laws.proofs.Keeping.{HeardAny}
-use Rattle.mds_laws.proofs.EachCases.{EachCase, CanBegin, is_own_input, end_input, without_write}
-use Rattle.mds_laws.proofs.OpsWalk.{place_served, served_again, stepped_there}
+use Rattle.mds_walk.proofs.Parts.{HeardAny, CanBegin, end_input, without_write}
+use Rattle.mds_laws.proofs.EachCases.{EachCase, is_own_input}
+use Rattle.mds_walk.proofs.Served.{place_served, served_again, stepped_there}
 use Rattle.mds_laws.proofs.OwnPeriods.{own_granted, own_granted_so}
 use Rattle.mds_laws.proofs.Numbers.{WereSent, sent_more, sent_with, sent_kept}
 use Rattle.mds_quiet.proofs.NewServers.{new_apart, how_many}

@@ -19,14 +19,14 @@ use Rattle.cluster_model.specs.Mirrors.{has_server, are_on_different_servers}
 use Rattle.cluster_model.specs.Fences.{waits, FenceState, with_stage, waiting_at, fence_call_at, call_from}
 use Rattle.cluster_model.specs.Phases.{ids_of}
 use Rattle.copy_rule.specs.declared.copy_target.CopyTarget.{CopyTarget}
-use Rattle.copy_rule.specs.Copies.{CopyState, CopyCall, is_given_up, have_answered, target_call_at}
+use Rattle.copy_rule.specs.Copies.{CopyState, CopyCall, is_given_up, may_read_on, is_read_due, target_call_at}
 use Rattle.copy_rule.specs.Copies as copy
 use Rattle.file_rule.specs.declared.creation.Creation.{Creation}
 use Rattle.file_rule.specs.MdsFiles.{Creations, Activity, Idle, Makes, Fences, Settles, Copies, MdsFile, in_stage}
 use Rattle.file_rule.specs.FilePhases.{CallOut, creation_waiting, create_out_at, create_out, fence_out, settle_out, copy_out, call_out_of, call_out}
 use Rattle.mirror_writer.specs.Writers.{WriterMirror, WriterValue, WriterSends, is_some_call, next_at}
 use Rattle.mirror_writer.specs.Writers as writer
-use Rattle.resilver.specs.Calls.{servers_from, is_read_due}
+use Rattle.resilver.specs.Calls.{servers_from}
 use Rattle.mds_activity.specs.FileCalls.{first_server, servers_by}
 use Rattle.mds_rule.specs.MdsStates.{WaitingWrite, ServedFile}
 use Rattle.mds_rule.specs.Goes.{OwnCall, own_of_file, own_of_write, own_by, place_of, place_or_last}
@@ -121,7 +121,7 @@ module _ (f : MdsFile) where
       })
 
   copy_back : (c : CopyState) (xid : ℕ) (o : Option ℕ) → Back (Copies c) (copy_out f (copy.call_from c xid o))
-  copy_back c xid None = cond_both (waits c.read && have_answered c) (Some _) None (λ (x : Option CopyCall). Back (Copies c) (copy_out f x)) (λ due b. record { ordered = record { apart = b.ordered.apart; busy = b.ordered.busy }; few = record { mirrors = b.few.mirrors; room = b.few.room } }) (λ off. tt)
+  copy_back c xid None = cond_both (waits c.read && may_read_on c) (Some _) None (λ (x : Option CopyCall). Back (Copies c) (copy_out f x)) (λ due b. record { ordered = record { apart = b.ordered.apart; busy = b.ordered.busy }; few = record { mirrors = b.few.mirrors; room = b.few.room } }) (λ off. tt)
   copy_back c xid (Some place) = target_back c xid place (slice_get c.targets place) refl
 
   out_of_back : (xid : ℕ) (a : Activity) → Back a (call_out_of f xid a)

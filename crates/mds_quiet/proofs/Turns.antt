@@ -31,8 +31,9 @@ use Rattle.cluster_model.specs.Phases.{is_last_live, with_phase, is_clean, Phase
 use Rattle.copy_rule.specs.declared.copy_target.CopyTarget.{CopyTarget}
 use Rattle.copy_rule.specs.declared.copy_target.CopyStep.{CopyStep}
 use Rattle.copy_rule.specs.declared.copy_target.CopyStep.TheVariants as copy_step
-use Rattle.copy_rule.specs.Copies.{CopyState, CopyAfter, CopyCall, TargetStep, have_answered, has_outcome, swaps_of, target_call_at, with_target, with_read, with_piece, with_next, copy_then, stranger, source_fails, is_long, read_answered, read_late, target_of, target_answered, target_late, by_read}
+use Rattle.copy_rule.specs.Copies.{CopyState, CopyAfter, CopyCall, TargetStep, have_answered, may_read_on, has_outcome, swaps_of, target_call_at, with_target, with_read, with_piece, with_next, copy_then, stranger, source_fails, is_long, read_answered, read_late, target_of, target_answered, target_late, by_read}
 use Rattle.copy_rule.specs.Copies as copy
+use Rattle.copy_rule.proofs.ReadOn.{answered_of}
 use Rattle.file_rule.specs.declared.creation.Creation.{Creation}
 use Rattle.file_rule.specs.declared.fresh.Fresh.{Fresh}
 use Rattle.file_rule.specs.MdsFiles.{Creations, Activity, Idle, Makes, Fences, Settles, Copies, MdsFile, FileStep, nothing, stays, a_uid, goes_idle, goes_fencing, begun_by, goes_on, with_entries, fenced_on, fence_stepped, shown_by_set, seen_by, mirror_at, with_creation, creation_of, creation_answered, creation_timed_out, all_made, making_on, making_at, making_by, plan_of, copying, settled, source_left, shown_by_commit, seen_at_source, settling_answered, settling_timed_out, copied_by, copied_on, target_left, copy_stepped}
@@ -370,7 +371,7 @@ module _ (f : MdsFile) where
   target_out_turns c xid place none (Some t) = inl none
 
   copy_out_turns : (c : CopyState) (xid : ℕ) → TurnsOf c → (o : Option ℕ) → copy.waiting_at c ≡ o → OutTurns (copy_out f (copy.call_from c xid o))
-  copy_out_turns c xid its None is = cond_both (waits c.read && have_answered c) (Some _) None (λ (x : Option CopyCall). OutTurns (copy_out f x)) (λ due. inr (and_parts (waits c.read) (have_answered c) due).1) (λ off. tt)
+  copy_out_turns c xid its None is = cond_both (waits c.read && may_read_on c) (Some _) None (λ (x : Option CopyCall). OutTurns (copy_out f x)) (λ due. inr (answered_of c (and_parts (waits c.read) (may_read_on c) due).1)) (λ off. tt)
   copy_out_turns c xid its (Some place) is =
       target_out_turns c xid place (none_read c (λ (t : CopyTarget). waits t.stage) (λ t waiting. waits_not_over t.stage waiting) place is its) (slice_get c.targets place)
 

@@ -9,7 +9,7 @@ use Rattle.mds_rule.specs.MdsStates.{ServedFile, AwaitedCall, MdsValue}
 use Rattle.mds_rule.specs.declared.waiter.Waiter.{Waiter}
 use Rattle.mds_rule.specs.declared.waiter.Waiter.TheVariants.{ForFile, ForRead, ForWrite, ForRecall}
 use Rattle.mds_rule.specs.Events.{takes_tick}
-use Rattle.mds_laws.specs.MdsRuns.{MdsEvent, mds_run}
+use Rattle.mds_walk.specs.MdsRuns.{MdsEvent, mds_run}
 use Rattle.standing_calls.specs.Standing.{OfEachFile}
 
 -- ---- the calls of one waiter

@@ -2,7 +2,7 @@
 use Rattle.std.specs.Prelude.{◌≡◌, ◌≢◌, ℕ, ◌≤◌, List, length, Some, slice_get}
 use Rattle.device_addr.specs.Universal.{AddressValue}
 use Rattle.mds_rule.specs.MdsStates.{ServedFile, MdsValue}
-use Rattle.mds_laws.specs.MdsRuns.{MdsEvent, mds_run}
+use Rattle.mds_walk.specs.MdsRuns.{MdsEvent, mds_run}
 use Rattle.mds_quiet.specs.Resting.{RestsFile, RestReads, RestRecalls}
 
 -- while numbers are left, each file rests, and its READs

@@ -3,7 +3,7 @@
 ghost use Rattle.std.specs.Prelude.{List, Option, ℕ};
 ghost use Rattle.device_addr.specs.Universal.{AddressValue};
 ghost use Rattle.mds_rule.specs.MdsStates.{MdsValue};
-ghost use Rattle.mds_laws.specs.MdsRuns.{MdsEvent};
+ghost use Rattle.mds_walk.specs.MdsRuns.{MdsEvent};
 ghost use Rattle.mds_quiet.specs.RecallLaw.{TickEndsRecalls};
 ghost use Rattle.mds_quiet.specs.RestLaw.{FilesGoOut, ReadsGoOut, RecallsGoOut};
 ghost use Rattle.mds_quiet.specs.CallCounts.{TicksLeaveFew};

@@ -61,10 +61,10 @@ refused_under xid status tag = under xid success (spelling compound4_res (stat4_
 
 counted_under : (xid : ℕ) (c : CompoundValue) → IsUnder xid (counted xid c)
 counted_under xid c =
-    cond_both (not (eqb c.minorversion 1)) (refuses_compound xid stat.MinorVersMismatch c.tag) (cond (ltb 16 c.count) (refuses_compound xid stat.TooManyOps c.tag) (walked xid c (rest_of_stop c.ops.stop)))
+    cond_both (not (eqb c.minorversion 1)) (refuses_compound xid stat.MinorVersMismatch c.tag) (cond (ltb 16 c.count) (refuses_compound xid stat.TooManyOps c.tag) (walked xid c (rest_of_stop c.stop)))
     (λ (v : IncomingValue). IsUnder xid v) (λ other. refused_under xid stat.MinorVersMismatch c.tag)
-    (λ same. cond_both (ltb 16 c.count) (refuses_compound xid stat.TooManyOps c.tag) (walked xid c (rest_of_stop c.ops.stop))
-    (λ (v : IncomingValue). IsUnder xid v) (λ many. refused_under xid stat.TooManyOps c.tag) (λ few. walked_under xid c (rest_of_stop c.ops.stop)))
+    (λ same. cond_both (ltb 16 c.count) (refuses_compound xid stat.TooManyOps c.tag) (walked xid c (rest_of_stop c.stop))
+    (λ (v : IncomingValue). IsUnder xid v) (λ many. refused_under xid stat.TooManyOps c.tag) (λ few. walked_under xid c (rest_of_stop c.stop)))
 
 head_under : (xid : ℕ) (r : Result CompoundValue XdrError) → IsUnder xid (with_head xid r)
 head_under xid (Ok c) = counted_under xid c

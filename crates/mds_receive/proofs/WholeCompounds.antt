@@ -11,9 +11,11 @@ use Rattle.rpc_record.specs.Calls.{RpcCall, call_bytes}
 use Rattle.rpc_record.specs.Laws.{IsCallReadAgain}
 use Rattle.nfs4_compound.specs.declared.stop.Stop.TheVariants as stop
 use Rattle.nfs4_compound.specs.Args.{argop4}
-use Rattle.nfs4_compound.specs.Operations.{OpList, left_at, operations}
-use Rattle.nfs4_compound.specs.Compounds.{CompoundValue, compound_head, compound_of, compound_at, compound4_args, tag4}
-use Rattle.nfs4_compound.specs.Laws.{AreGivenWhole}
+use Rattle.nfs4_compound.specs.declared.stop.Stop.{Stop}
+use Rattle.nfs4_compound.specs.Operations.{OpList, left_at}
+use Rattle.nfs4_compound.specs.AllOps.{served_ops}
+use Rattle.nfs4_compound.specs.Compounds.{CompoundValue, whole_stop, compound_head, compound_of, compound_at, compound4_args, tag4}
+use Rattle.nfs4_compound.specs.Laws.{AreServedWhole}
 use Rattle.mds_receive.specs.MdsReceive.{with_call}
 use Rattle.mds_receive.specs.MdsReceiveLaws.{compound_with, IsTakenWhole}
 
@@ -43,7 +45,10 @@ abbrev behind_head : Form
 behind_head = Pair Number32 Number32
 
 abbrev made : List ℕ → Value compound4_args × ℕ → CompoundValue
-made args v = record { tag = v.0.0; minorversion = v.0.1.0; count = length v.0.1.1; ops = record { values = v.0.1.1; stop = stop.End (left_at args v.1) } }
+made args v = record { tag = v.0.0; minorversion = v.0.1.0; count = length v.0.1.1; ops = record { values = v.0.1.1; stop = stop.End (left_at args v.1) }; stop = stop.End (left_at args v.1) }
+
+abbrev value : List ℕ → ℕ → ℕ → OpList argop4 → Stop → CompoundValue
+value tag minor count ops end = record { tag = tag; minorversion = minor; count = count; ops = ops; stop = end }
 
 -- ---- pairs
 
@@ -67,18 +72,20 @@ pair_is first second bytes at a b e f =
 
 -- ---- a compound
 
-module _ (given : AreGivenWhole argop4) where
+module _ (given : AreServedWhole) where
   -- behind a tag, a minor version and a count stand the operations
   parts_made : (args : List ℕ) (tag : List ℕ × ℕ) (minor count : ℕ × ℕ) (ops : List (Value argop4) × ℕ) → reading compound_head args 0 ≡ Ok ((tag.0, (minor.0, count.0)), count.1)
       → many_at (λ place. reading argop4 args place) count.0 count.1 ≡ Ok ops → compound_at args ≡ Ok (made args ((tag.0, (minor.0, ops.0)), ops.1))
   parts_made args tag minor count ops head e =
-      let list : operations argop4 count.0 args count.1 ≡ record { values = ops.0; stop = stop.End (left_at args ops.1) } = given count.0 args count.1 ops.0 ops.1 e in
+      let list = given count.0 args count.1 ops.0 ops.1 e in
       let size : length ops.0 ≡ count.0 = many_length (λ place. reading argop4 args place) count.0 count.1 ops e in
-      let found : compound_at args ≡ Ok (record { tag = tag.0; minorversion = minor.0; count = count.0; ops = operations argop4 count.0 args count.1 }) =
+      let found : compound_at args ≡ Ok (value tag.0 minor.0 count.0 (served_ops count.0 args count.1) (whole_stop count.0 args count.1)) =
       bind_is (reading compound_head args 0) (λ h. Ok (compound_of args h)) ((tag.0, (minor.0, count.0)), count.1) head in
-      let counted : compound_at args ≡ Ok (record { tag = tag.0; minorversion = minor.0; count = length ops.0; ops = operations argop4 count.0 args count.1 }) =
-      subst (λ (k : ℕ). compound_at args ≡ Ok (record { tag = tag.0; minorversion = minor.0; count = k; ops = operations argop4 count.0 args count.1 })) (sym size) found in
-      subst (λ (o : OpList argop4). compound_at args ≡ Ok (record { tag = tag.0; minorversion = minor.0; count = length ops.0; ops = o })) list counted
+      let counted : compound_at args ≡ Ok (value tag.0 minor.0 (length ops.0) (served_ops count.0 args count.1) (whole_stop count.0 args count.1)) =
+      subst (λ (k : ℕ). compound_at args ≡ Ok (value tag.0 minor.0 k (served_ops count.0 args count.1) (whole_stop count.0 args count.1))) (sym size) found in
+      let listed : compound_at args ≡ Ok (value tag.0 minor.0 (length ops.0) (record { values = ops.0; stop = stop.End (left_at args ops.1) }) (whole_stop count.0 args count.1)) =
+      subst (λ (o : OpList argop4). compound_at args ≡ Ok (value tag.0 minor.0 (length ops.0) o (whole_stop count.0 args count.1))) list.ops counted in
+      subst (λ (t : Stop). compound_at args ≡ Ok (value tag.0 minor.0 (length ops.0) (record { values = ops.0; stop = stop.End (left_at args ops.1) }) t)) list.ends listed
 
   compound_is : (args : List ℕ) (v : Value compound4_args × ℕ) → reading compound4_args args 0 ≡ Ok v → compound_at args ≡ Ok (made args v)
   compound_is args v e =
@@ -92,7 +99,7 @@ module _ (given : AreGivenWhole argop4) where
       subst (λ (w : Value behind × ℕ). compound_at args ≡ Ok (made args ((t.a.0, w.0), w.1))) m.same whole_list in
       subst (λ (w : Value compound4_args × ℕ). compound_at args ≡ Ok (made args w)) t.same behind_tag
 
-  compound_whole : (args tag : List ℕ) (ops : List (Value argop4)) → whole args (reading compound4_args args 0) ≡ Ok (tag, (1, ops)) → compound_at args ≡ Ok (compound_with tag ops)
+  pub compound_whole : (args tag : List ℕ) (ops : List (Value argop4)) → whole args (reading compound4_args args 0) ≡ Ok (tag, (1, ops)) → compound_at args ≡ Ok (compound_with tag ops)
   compound_whole args tag ops e =
       let r = bind_ok (reading compound4_args args 0) (λ v. rest_of args v.1 >>= λ nothing. Ok v.0) (tag, (1, ops)) e in
       let s = bind_ok (rest_of args r.0.1) (λ nothing. Ok r.0.0) (tag, (1, ops)) r.2 in
@@ -100,9 +107,9 @@ module _ (given : AreGivenWhole argop4) where
       let none : left_at args r.0.1 ≡ None = rw (g.0) refl in
       let same : r.0.0 ≡ (tag, (1, ops)) = ok_is {A = Value compound4_args} r.0.0 (tag, (1, ops)) s.2 in
       let found : compound_at args ≡ Ok (made args r.0) = compound_is args r.0 r.1 in
-      let ended : compound_at args ≡ Ok (record { tag = r.0.0.0; minorversion = r.0.0.1.0; count = length r.0.0.1.1; ops = record { values = r.0.0.1.1; stop = stop.End None } }) =
-      subst (λ (rest : Option ℕ). compound_at args ≡ Ok (record { tag = r.0.0.0; minorversion = r.0.0.1.0; count = length r.0.0.1.1; ops = record { values = r.0.0.1.1; stop = stop.End rest } })) none found in
-      subst (λ (w : Value compound4_args). compound_at args ≡ Ok (record { tag = w.0; minorversion = w.1.0; count = length w.1.1; ops = record { values = w.1.1; stop = stop.End None } })) same ended
+      let ended : compound_at args ≡ Ok (record { tag = r.0.0.0; minorversion = r.0.0.1.0; count = length r.0.0.1.1; ops = record { values = r.0.0.1.1; stop = stop.End None }; stop = stop.End None }) =
+      subst (λ (rest : Option ℕ). compound_at args ≡ Ok (record { tag = r.0.0.0; minorversion = r.0.0.1.0; count = length r.0.0.1.1; ops = record { values = r.0.0.1.1; stop = stop.End rest }; stop = stop.End rest })) none found in
+      subst (λ (w : Value compound4_args). compound_at args ≡ Ok (record { tag = w.0; minorversion = w.1.0; count = length w.1.1; ops = record { values = w.1.1; stop = stop.End None }; stop = stop.End None })) same ended
 
   pub taken : (header : (c : RpcCall) → IsCallReadAgain c) (call : RpcCall) (tag : List ℕ) (ops : List (Value argop4)) → IsTakenWhole call tag ops
   taken header call tag ops = λ h a.

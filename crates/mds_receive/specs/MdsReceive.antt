@@ -62,7 +62,7 @@ refuses_compound xid status tag = answers xid success (spelling compound4_res (s
 -- ---- the steps, from the last to the first
 
 -- Bytes behind the last operation are no arguments. An operation that is not built, or out of form, ends the walk, and is none of its
--- refusals.
+-- refusals; one that is read and not carried out does not end it.
 abbrev pub walked : ℕ → CompoundValue → Option ℕ → IncomingValue
 walked xid c (Some rest) = refuses xid garbage_args
 walked xid c None = IsCompound xid c
@@ -72,7 +72,7 @@ abbrev pub counted : ℕ → CompoundValue → IncomingValue
 counted xid c =
     if not (c.minorversion == minor_version) then refuses_compound xid stat.MinorVersMismatch c.tag
     else (if nat_lt max_ops c.count then refuses_compound xid stat.TooManyOps c.tag
-    else walked xid c (rest_of_stop c.ops.stop))
+    else walked xid c (rest_of_stop c.stop))
 
 -- the tag, the minor version and the count in their form
 abbrev pub with_head : ℕ → Result CompoundValue XdrError → IncomingValue

@@ -35,7 +35,7 @@ IsBlindToCaller c cred = HasCallRecord c → HasCallRecord (called_by c cred) �
 
 -- a compound of minor version 1 of exactly these operations
 abbrev pub compound_with : List ℕ → List (Value argop4) → CompoundValue
-compound_with tag ops = record { tag = tag; minorversion = 1; count = length ops; ops = record { values = ops; stop = stop.End None } }
+compound_with tag ops = record { tag = tag; minorversion = 1; count = length ops; ops = record { values = ops; stop = stop.End None }; stop = stop.End None }
 
 -- a COMPOUND of NFS version 4 whose arguments are these, with nothing behind them, of at most 16 operations
 pub record AsksCompound (c : RpcCall) (tag : List ℕ) (ops : List (Value argop4)) : Type 0 where

@@ -22,7 +22,7 @@ pub const MAX_OPS: u32 = 16;
 
 /// The form of the operations is gone over; bytes behind the last are no arguments.
 fn walk<'a>(alloc: Global, xid: u32, compound: Compound<'a>) -> Result<Incoming<'a>, NoMemory>
-    ensures { ComesTo result (walked xid compound.entry (rest_of_stop compound.entry.ops.stop)) }
+    ensures { ComesTo result (walked xid compound.entry (rest_of_stop compound.entry.stop)) }
 {
     if compound.rest().is_some() {
         return answer(alloc, xid, ReplyBody::GarbageArgs);

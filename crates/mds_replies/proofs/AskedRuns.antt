@@ -27,9 +27,10 @@ use Rattle.mds_receive.specs.MdsReceive.{IsCompound, incoming_of}
 use Rattle.mds_rule.specs.MdsStates.{CompoundRun, WaitingRead, WaitingWrite, ServedFile, MdsSend, Replies, MdsValue, MdsStep}
 use Rattle.mds_rule.specs.OpSteps.{with_result, refused_as}
 use Rattle.mds_rule.specs.Compounds.{compound_bytes, kept_in_slot, sequenced}
-use Rattle.mds_laws.specs.MdsRuns.{MdsInput, MdsEvent, Hears, IsTimedOut, Ticks, RecallsFile, Resilvers, after_event}
-use Rattle.mds_laws.proofs.Lists.{AllOf}
-use Rattle.mds_laws.proofs.Keeping.{Keeps, IsNoRequest}
+use Rattle.mds_walk.specs.MdsRuns.{MdsInput, MdsEvent, Hears, IsTimedOut, Ticks, RecallsFile, Resilvers, after_event}
+use Rattle.mds_walk.proofs.Lists.{AllOf}
+use Rattle.mds_walk.proofs.Parts.{Keeps, AllWait, IsNoTurn}
+use Rattle.mds_laws.proofs.Keeping.{IsNoRequest}
 use Rattle.mds_replies.specs.ClientCalls.{IsCallFrom, server_after, IsEventOf}
 use Rattle.mds_replies.specs.SlotReplies.{request_of}
 use Rattle.mds_replies.specs.AnsweredRequests.{AreFitCalls}
@@ -38,7 +39,6 @@ use Rattle.mds_replies.proofs.HeldFiles.{in_behind}
 use Rattle.mds_replies.proofs.PeriodKept.{sent_with_calls, in_sent}
 use Rattle.mds_replies.proofs.OutCalls.{are_called}
 use Rattle.mds_replies.proofs.ReplySent.{run_of_call, event_is, of_calls}
-use Rattle.mds_replies.proofs.HolderCases.{AllWait, IsNoTurn}
 use Rattle.mds_replies.proofs.LegibleResults.{IsLegible}
 use Rattle.mds_replies.proofs.SameRuns.{Like}
 use Rattle.mds_replies.proofs.TakenRequests.{taken_mds, taken_compound}

@@ -14,7 +14,7 @@ use Rattle.nfs4_compound.specs.Operations.{rest_of_stop}
 use Rattle.mds_calls.specs.MdsCalls.{MdsCallValue}
 use Rattle.mds_calls.specs.MdsCompounds.{mds_ops}
 use Rattle.mds_receive.specs.MdsReceive.{IncomingValue, IsCompound, nfs_program, nfs_version, null_procedure, compound_procedure, minor_version, max_ops, refuses, refuses_compound, walked, counted, with_head, asks_null, asked, dispatched, of_reply, with_call}
-use Rattle.mds_laws.specs.MdsRuns.{MdsEvent}
+use Rattle.mds_walk.specs.MdsRuns.{MdsEvent}
 use Rattle.mds_replies.specs.ClientCalls.{IsCallFrom}
 
 abbrev IsSmall : IncomingValue → Type 0
@@ -27,9 +27,9 @@ walked_small xid c few (Some rest) = tt
 
 counted_small : (xid : ℕ) (c : CompoundValue) → IsSmall (counted xid c)
 counted_small xid c =
-    cond_both (not (c.minorversion == minor_version)) (refuses_compound xid stat.MinorVersMismatch c.tag) (if nat_lt max_ops c.count then refuses_compound xid stat.TooManyOps c.tag else walked xid c (rest_of_stop c.ops.stop)) IsSmall (λ other. tt)
+    cond_both (not (c.minorversion == minor_version)) (refuses_compound xid stat.MinorVersMismatch c.tag) (if nat_lt max_ops c.count then refuses_compound xid stat.TooManyOps c.tag else walked xid c (rest_of_stop c.stop)) IsSmall (λ other. tt)
     (λ its.
-    cond_both (nat_lt max_ops c.count) (refuses_compound xid stat.TooManyOps c.tag) (walked xid c (rest_of_stop c.ops.stop)) IsSmall (λ many. tt) (λ few. walked_small xid c (ltb-false max_ops c.count few) (rest_of_stop c.ops.stop)))
+    cond_both (nat_lt max_ops c.count) (refuses_compound xid stat.TooManyOps c.tag) (walked xid c (rest_of_stop c.stop)) IsSmall (λ many. tt) (λ few. walked_small xid c (ltb-false max_ops c.count few) (rest_of_stop c.stop)))
 
 head_small : (xid : ℕ) (r : Result CompoundValue XdrError) → IsSmall (with_head xid r)
 head_small xid (Ok c) = counted_small xid c

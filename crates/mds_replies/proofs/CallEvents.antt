@@ -11,10 +11,10 @@ use Rattle.mds_calls.specs.MdsCalls.{SlotCallValue, MdsCallValue}
 use Rattle.mds_calls.specs.MdsCalls as slot
 use Rattle.mds_calls.specs.MdsCompounds.{slot_ops}
 use Rattle.mds_receive.specs.MdsReceive.{IncomingValue, PassedOver, IsReply, IsAnswered, IsCompound, incoming_of}
-use Rattle.mds_laws.specs.MdsRuns.{MdsInput, MdsEvent, Hears, IsTimedOut, Ticks, RecallsFile, Resilvers}
+use Rattle.mds_walk.specs.MdsRuns.{MdsInput, MdsEvent, Hears, IsTimedOut, Ticks, RecallsFile, Resilvers}
 use Rattle.mds_replies.specs.ClientCalls.{IsCallIn, IsCallFrom}
 use Rattle.mds_replies.specs.AnsweredRequests.{HearsFitCall}
-use Rattle.mds_replies.proofs.Turns.{is_waiting_op}
+use Rattle.mds_walk.proofs.Parts.{is_waiting_op}
 
 -- ---- what an event brings
 

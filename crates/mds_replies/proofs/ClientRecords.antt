@@ -5,7 +5,7 @@ use Rattle.cluster_model.specs.Members.{IsOneOf}
 use Rattle.nfs4_session.specs.Clients.{ClientState, SessionsState, client_id}
 use Rattle.nfs4_session.specs.ExchangeIds.{new_client}
 use Rattle.nfs4_session.specs.TableLaw.{TableMove, table_after}
-use Rattle.mds_laws.proofs.Lists.{all_in}
+use Rattle.mds_walk.proofs.Lists.{all_in}
 use Rattle.mds_replies.proofs.TableKeys.{FitsWord, Came, Was, IsNew, verifier_of, owner_of, came_with, grows_with}
 
 pub record IsTable (s : SessionsState) : Type 0 where

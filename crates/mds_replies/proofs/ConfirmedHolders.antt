@@ -8,7 +8,6 @@ use Rattle.std.proofs.lemmas.Bool.{cond_both, eqb-true}
 use Rattle.std.proofs.lemmas.List.{append-nil, append_assoc}
 use Rattle.std.proofs.lemmas.Option.{same_Some, none-some}
 use Rattle.ff_xdr.specs.Form.{Value, arm_of}
-use Rattle.ff_xdr.specs.Arms.{of_each_arm}
 use Rattle.compound_reply.specs.Replied.{success_reply}
 use Rattle.cluster_model.specs.declared.ids.NodeId.{NodeId}
 use Rattle.cluster_model.specs.declared.ids.NodeId.TheVariants.{Client}
@@ -37,7 +36,6 @@ use Rattle.nfs4_session.specs.Slots.{SlotAnswer, TakesEffect, Repeats, Refuses}
 use Rattle.nfs4_session.specs.Requests.{request_answer, after_request}
 use Rattle.nfs4_session.specs.Beginning.{table_begun}
 use Rattle.nfs4_session.specs.Bindings.{after_binding}
-use Rattle.mds_parts.specs.MdsResults.{in_arm}
 use Rattle.mds_file_calls.specs.FileOps.{device_info_op}
 use Rattle.mds_calls.specs.MdsCalls.{SlotCallValue, MdsCallValue, ExchangeId, CreateSession, OnSlot}
 use Rattle.mds_calls.specs.MdsCalls as slot
@@ -51,34 +49,32 @@ use Rattle.mds_rule.specs.OpSteps.{OpStep, Goes, Ends, Waits, with_result, refus
 use Rattle.mds_rule.specs.ServedFiles.{has_fresh, is_period_end, file_behind, file_stepped, input_at, takes_input}
 use Rattle.mds_rule.specs.FileOps.{servers_of, new_served, with_new_file}
 use Rattle.mds_rule.specs.SessionOps.{confirms}
-use Rattle.mds_rule.specs.LayoutOps.{with_holder}
+use Rattle.mds_rule.specs.LayoutOps.{with_holder, client_number}
 use Rattle.mds_rule.specs.Compounds.{operate, has_session, operates, compound_bytes, kept_in_slot, finishes, op_then, with_ops, runs, sequence_in, in_slot, sequenced, sequence_of, may_stand_alone, first_alone, first_by, first_operation, new_run}
-use Rattle.mds_laws.specs.MdsRuns.{MdsInput, MdsEvent, Hears, IsTimedOut, Ticks as IsTick, RecallsFile, Resilvers, by_input, after_event, run_from}
-use Rattle.mds_laws.specs.SlotUses.{first_request}
-use Rattle.mds_laws.proofs.Lists.{AllOf, all_push, all_set, all_got}
-use Rattle.mds_laws.proofs.Keeping.{HeardAny, Becomes, Keeps, KeepsOp, TakesInput, hears_any, then_keeps, same, becomes_keeps, enters_keeps, stays}
-use Rattle.mds_laws.proofs.OpsWalk.{place_served}
-use Rattle.mds_laws.proofs.Requested.{behind_request, behind_begin}
+use Rattle.mds_walk.specs.MdsRuns.{MdsInput, MdsEvent, Hears, IsTimedOut, Ticks as IsTick, RecallsFile, Resilvers, by_input, after_event, run_from}
+use Rattle.mds_walk.specs.FirstRequests.{first_request}
+use Rattle.mds_walk.proofs.Lists.{AllOf, all_push, all_set, all_got}
+use Rattle.mds_walk.proofs.Parts.{HeardAny, Becomes, Keeps, TakesInput, AllWait, created_in}
+use Rattle.mds_walk.proofs.Keeping.{KeepsOp, hears_any, then_keeps, same, becomes_keeps, enters_keeps, stays}
+use Rattle.mds_walk.proofs.Served.{place_served}
+use Rattle.mds_walk.proofs.Requested.{behind_request, behind_begin}
 use Rattle.mds_replies.specs.ClientCalls.{IsCallIn, IsCallFrom, HearsCall, AreCalls, server_after, IsEventOf}
 use Rattle.mds_replies.specs.PeriodEntries.{PeriodsAreConfirmed}
 use Rattle.mds_replies.proofs.CallsLeave.{out_layout}
 use Rattle.mds_replies.proofs.EndsOnce.{FileAgrees}
 use Rattle.mds_replies.proofs.HeldFiles.{After, GoesOn, IsOver, held_after}
-use Rattle.mds_replies.proofs.HolderCases.{AllWait, Cases, WaitCases}
+use Rattle.mds_replies.proofs.HolderCases.{Cases, WaitCases}
 use Rattle.mds_replies.proofs.HoldersHold.{HolderHolds, IsByClient, IsAsked, asked_is, kept_was, at_file}
 use Rattle.mds_replies.proofs.HoldersHold as hold
 use Rattle.mds_replies.proofs.WaitingCompounds.{same_wait}
-use Rattle.mds_replies.proofs.ServedWalk.{exchanges, creates, binds, destroys_session, destroys_client, reclaims_all}
-use Rattle.mds_replies.proofs.OpsWalk.{puts_fh, gets_fh, looks_up, gets_attr, opens, closes_file, commits, reads, writes, layout_gets, layout_returns, layout_commits, device_infos}
-use Rattle.mds_replies.proofs.GoesWalk.{input_walk, RunsSo}
+use Rattle.mds_replies.proofs.GoesWalk.{input_walk}
+use Rattle.mds_walk.proofs.EventWalk.{RunsSo}
 use Rattle.mds_replies.proofs.SameRuns.{Like, StepsLike, operate_like, operates_like}
 use Rattle.mds_replies.proofs.Turns.{in_pushed, behind_wait}
+use Rattle.mds_walk.proofs.CompoundWalk.{operate_walk}
+use Rattle.mds_replies.proofs.HolderParts.{case_parts}
 
 -- ---- lists and phases
-
--- the client of a CREATE_SESSION
-abbrev pub created_in : Value argop4 → Option ℕ
-created_in op = in_arm 43 argop4 (λ args. Some args.0) None op
 
 abbrev node_in : LayoutPhase → ℕ → ℕ
 node_in (Held (Client n) is_recalled) other = n
@@ -322,68 +318,14 @@ module _ (Ok : ℕ → NodeId → Type 0) where
   returned m file s n cred errors = inputs m file s (Returns n cred (report_of errors s.file.layout.live))
 
   operate_keeps : (now : ℕ) (m : MdsValue) (c : CompoundRun) → W c → (op : Value argop4) → MayRun c.node op → KeepsOp IsSo m (operate now m c op)
-  operate_keeps now m c its op =
-      of_each_arm argop4 (λ (v : Value argop4). MayRun c.node v → KeepsOp IsSo m (operate now m c v)) (
-        (λ close may. closes_file IsSo HeardAny W cases m c close),
-        (
-          (λ commit may. commits IsSo HeardAny W cases m c),
-          (
-            (λ words may. gets_attr IsSo HeardAny W cases m c words),
-            (
-              (λ nothing may. gets_fh IsSo HeardAny W cases m c),
-              (
-                (λ name may. looks_up IsSo HeardAny W cases m c name),
-                (
-                  (λ opening may. opens IsSo HeardAny W cases m c opening),
-                  (
-                    (λ handle may. puts_fh IsSo HeardAny W cases m c handle),
-                    (
-                      (λ nothing may. stays IsSo m),
-                      (
-                        (λ read may. reads IsSo HeardAny W cases m c read its),
-                        (
-                          (λ write may. writes IsSo HeardAny W cases m c now write its),
-                          (
-                            (λ bind may. binds IsSo HeardAny W cases m c bind),
-                            (
-                              (λ exchange may. exchanges IsSo HeardAny W cases m c now exchange),
-                              (
-                                (λ create may. creates IsSo HeardAny W cases m c now create (λ x. confirms_keeps x create.0 c.node (may create.0 refl))),
-                                (
-                                  (λ session may. destroys_session IsSo HeardAny W cases (λ n id es ss i. (hold.runs.destroys n id es ss i.0, i.1)) m c session),
-                                  (
-                                    (λ device may. device_infos IsSo HeardAny W cases m c device),
-                                    (
-                                      (λ commit may. layout_commits IsSo HeardAny W cases m c commit),
-                                      (
-                                        (λ layout may. layout_gets IsSo HeardAny W cases m c now layout),
-                                        (
-                                          (λ layout may. layout_returns IsSo HeardAny W cases returned m c layout),
-                                          (
-                                            (λ sequence may. stays IsSo m),
-                                            (
-                                              (λ client may. destroys_client IsSo HeardAny W cases m c client),
-                                              ((λ one_fs may. reclaims_all IsSo HeardAny W cases m c c.slot), tt),
-                                            ),
-                                          ),
-                                        ),
-                                      ),
-                                    ),
-                                  ),
-                                ),
-                              ),
-                            ),
-                          ),
-                        ),
-                      ),
-                    ),
-                  ),
-                ),
-              ),
-            ),
-          ),
-        ),
-      ) op
+  operate_keeps now m c its op may =
+      operate_walk IsSo HeardAny W (case_parts IsSo HeardAny W cases) now m c op
+      (record {
+        waits = λ is. its;
+        returns = λ is x file s errors. returned x file s (client_number (holder_of s.file.layout.phase)) s.file.layout.cred errors;
+        confirms = λ client is x. confirms_keeps x client c.node (may client is);
+        destroys = λ is x session es ss i. (hold.runs.destroys x session es ss i.0, i.1);
+      })
 
   operates_keeps : (now : ℕ) (m : MdsValue) (c : CompoundRun) → W c → (op : Value argop4) → MayRun c.node op → KeepsOp IsSo m (operates now m c op)
   operates_keeps now m c its op may =
@@ -466,7 +408,7 @@ module _ (Ok : ℕ → NodeId → Type 0) where
   MayHear (Hears node bytes) = (xid : ℕ) (v : CompoundValue) → incoming_of bytes ≡ IsCompound xid v → (name : List ℕ) × (call : MdsCallValue) × IsCallIn v name call × MayCall node call
   MayHear input = Unit {0}
 
-  runs_so : (now : ℕ) (input : MdsInput) (m : MdsValue) → MayHear input → RunsSo IsSo HeardAny W cases waiting now input m
+  runs_so : (now : ℕ) (input : MdsInput) (m : MdsValue) → MayHear input → RunsSo IsSo now input m
   runs_so now (Hears from bytes) m hears = (
     λ xid v is.
         let c = hears xid v is in

@@ -24,10 +24,11 @@ use Rattle.table_slots.specs.TableSlots.{is_of_session, number_taken, effect_on,
 use Rattle.mds_calls.specs.MdsCalls.{SlotCallValue, OnSlot}
 use Rattle.mds_receive.specs.MdsReceive.{incoming_of}
 use Rattle.mds_rule.specs.MdsStates.{MdsValue, new_mds}
-use Rattle.mds_laws.specs.MdsRuns.{MdsInput, MdsEvent, Hears, IsTimedOut, Ticks, RecallsFile, Resilvers, after_event}
-use Rattle.mds_laws.specs.SlotUses.{request_in, effect_asked, effect_in, effects_in}
+use Rattle.mds_walk.specs.MdsRuns.{MdsInput, MdsEvent, Hears, IsTimedOut, Ticks, RecallsFile, Resilvers, after_event}
+use Rattle.mds_walk.specs.FirstRequests.{request_in}
+use Rattle.mds_laws.specs.SlotUses.{effect_asked, effect_in, effects_in}
 use Rattle.mds_laws.proofs.Keeping.{IsNoRequest}
-use Rattle.mds_laws.proofs.Requested.{begun_moves}
+use Rattle.mds_walk.proofs.Requested.{begun_moves}
 use Rattle.mds_replies.specs.ClientCalls.{IsCallFrom, server_after, IsEventOf}
 use Rattle.mds_replies.specs.SlotReplies.{request_of, count_taken, EffectsAreNumbered}
 use Rattle.mds_replies.specs.AnsweredRequests.{AreFitCalls, StaysRoomy}

@@ -12,7 +12,7 @@ use Rattle.cluster_model.specs.Members.{IsOneOf}
 use Rattle.nfs4_session.specs.declared.client.TheConstants.{MAX_SESSIONS}
 use Rattle.nfs4_session.specs.Clients.{ClientState, MadeSession, SessionsState, client_id, session_id, client_in, number_in, has_id}
 use Rattle.nfs4_session.specs.CreateSessions.{CreateSessionCase, IsDue, IsReplay, IsMisordered, HasNoRoom, IsStale, numbers_are_spent, case_by_next, case_by_last, case_by_client, create_session_case}
-use Rattle.mds_laws.proofs.Lists.{found_in, found_passes}
+use Rattle.mds_walk.proofs.Lists.{found_in, found_passes}
 use Rattle.mds_replies.proofs.TableKeys.{FitsMade}
 use Rattle.mds_replies.proofs.ClientRecords.{IsTable}
 

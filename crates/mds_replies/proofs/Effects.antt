@@ -17,8 +17,9 @@ use Rattle.table_slots.specs.TableSlots.{is_of_slot, number_taken, effect_on}
 use Rattle.mds_calls.specs.MdsCalls.{SlotCallValue}
 use Rattle.mds_receive.specs.MdsReceive.{IncomingValue}
 use Rattle.mds_rule.specs.MdsStates.{MdsValue, new_mds}
-use Rattle.mds_laws.specs.MdsRuns.{MdsEvent, after_event, run_from}
-use Rattle.mds_laws.specs.SlotUses.{first_request, request_in, effect_asked, effect_in, effects_in, RequestsTakeEffectOnce}
+use Rattle.mds_walk.specs.MdsRuns.{MdsEvent, after_event, run_from}
+use Rattle.mds_walk.specs.FirstRequests.{first_request, request_in}
+use Rattle.mds_laws.specs.SlotUses.{effect_asked, effect_in, effects_in, RequestsTakeEffectOnce}
 use Rattle.mds_replies.specs.ClientCalls.{server_after}
 use Rattle.mds_replies.specs.SlotReplies.{request_of, TookEffect, EffectsAreNumbered}
 

@@ -26,8 +26,8 @@ use Rattle.mds_rule.specs.OpSteps.{refused_as}
 use Rattle.mds_rule.specs.SessionOps.{exchange_flags, exchange_result, with_exchange}
 use Rattle.mds_rule.specs.Compounds.{op_then, runs}
 use Rattle.mds_rule.specs.Goes.{calls_out}
-use Rattle.mds_laws.specs.MdsRuns.{MdsEvent, after_event}
-use Rattle.mds_laws.proofs.Lists.{found_in, found_passes}
+use Rattle.mds_walk.specs.MdsRuns.{MdsEvent, after_event}
+use Rattle.mds_walk.proofs.Lists.{found_in, found_passes}
 use Rattle.mds_replies.proofs.OutCalls.{AreCalled}
 use Rattle.mds_replies.proofs.ReplySent.{run_of_call, reply_is, read_as}
 use Rattle.mds_replies.proofs.ClientRecords.{IsTable}

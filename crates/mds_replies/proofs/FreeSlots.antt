@@ -17,9 +17,9 @@ use Rattle.nfs4_session.specs.Requests.{answer_by_slot, answer_by_session, reque
 use Rattle.nfs4_session.specs.TableLaw.{TableMove, table_after, TableRun, table_moved, table_run, IsTable, KeepsTable}
 use Rattle.mds_calls.specs.MdsCalls.{SlotCallValue}
 use Rattle.mds_rule.specs.MdsStates.{new_mds}
-use Rattle.mds_laws.specs.MdsRuns.{MdsEvent}
+use Rattle.mds_walk.specs.MdsRuns.{MdsEvent}
 use Rattle.mds_laws.proofs.Keeping.{IsNoRequest}
-use Rattle.mds_laws.proofs.Lists.{AllOf, all_in, found_in, found_passes}
+use Rattle.mds_walk.proofs.Lists.{AllOf, all_in, found_in, found_passes}
 use Rattle.mds_replies.specs.ClientCalls.{server_after}
 use Rattle.mds_replies.specs.SlotReplies.{request_of}
 use Rattle.mds_replies.specs.AnsweredRequests.{first_slot}

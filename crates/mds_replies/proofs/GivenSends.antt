@@ -18,16 +18,19 @@ use Rattle.mds_rule.specs.Answers.{own_answer, failures_by_place}
 use Rattle.mds_rule.specs.MdsStates.{ServedFile, MdsSend, CallsServer, CallsBack, Replies, Answers, AwaitedCall, MdsValue, MdsStep, sends_none, with_call, served, with_served}
 use Rattle.mds_rule.specs.declared.waiter.Waiter.TheVariants.{ForFile, ForRead, ForWrite, ForRecall}
 use Rattle.mds_rule.specs.ServedFiles.{has_fresh, is_period_end, file_behind, file_stepped, input_at}
-use Rattle.mds_laws.specs.MdsRuns.{MdsInput, MdsEvent, Hears, IsTimedOut, Ticks, RecallsFile, Resilvers, after_event}
-use Rattle.mds_laws.proofs.Lists.{AllOf, all_push, all_in}
-use Rattle.mds_laws.proofs.Keeping.{HeardAny, Keeps, becomes_keeps, hears_any}
+use Rattle.mds_walk.specs.MdsRuns.{MdsInput, MdsEvent, Hears, IsTimedOut, Ticks, RecallsFile, Resilvers, after_event}
+use Rattle.mds_walk.proofs.Lists.{AllOf, all_push, all_in}
+use Rattle.mds_walk.proofs.Parts.{HeardAny, Keeps, AnyCompound, Parts, RunParts}
+use Rattle.mds_walk.proofs.Keeping.{becomes_keeps, hears_any}
 use Rattle.mds_laws.proofs.Numbers.{WereSent, sent_more, sent_with, sent_kept}
-use Rattle.mds_laws.proofs.Requested.{behind_begin}
+use Rattle.mds_walk.proofs.Requested.{behind_begin}
 use Rattle.mds_replies.specs.ClientCalls.{server_after}
 use Rattle.mds_replies.specs.GivenAnswers.{EachReplyIsWhole, IsAnsweredNow, EachAnswerIsNow}
-use Rattle.mds_replies.proofs.HolderCases.{Cases, RunCases, AnyCompound}
-use Rattle.mds_replies.proofs.CompoundWalk.{waiting_walk, compound_walk}
-use Rattle.mds_replies.proofs.GoesWalk.{input_walk, begin_kept, RunsSo}
+use Rattle.mds_replies.proofs.HolderCases.{Cases, RunCases}
+use Rattle.mds_walk.proofs.CompoundWalk.{compound_walk, resumed}
+use Rattle.mds_replies.proofs.HolderParts.{case_parts, case_runs, case_calls, case_outs}
+use Rattle.mds_replies.proofs.GoesWalk.{begin_kept}
+use Rattle.mds_walk.proofs.EventWalk.{RunsSo, input_walk}
 use Rattle.mds_replies.proofs.HeldFiles.{in_behind}
 use Rattle.mds_replies.proofs.PeriodKept.{sent_with_calls, in_sent}
 use Rattle.mds_replies.proofs.OutCalls.{IsCall, AreCalled, are_called}
@@ -98,11 +101,17 @@ module _ (P : MdsSend → Type 0) (called : (s : MdsSend) → IsCall s → P s) 
     any = λ c. tt;
   }
 
+  parts : Parts IsSo HeardAny AnyCompound
+  parts = case_parts IsSo HeardAny AnyCompound cases
+
+  run_parts : RunParts IsSo
+  run_parts = case_runs IsSo AnyCompound runs
+
   -- what is answered at once is so where the event brought it
   module _ (e : MdsEvent) (given : (node : NodeId) (bytes asked : List ℕ) → e.input ≡ Hears node asked → incoming_of asked ≡ IsAnswered bytes → P (Answers node bytes)) where
-    runs_at : (input : MdsInput) → e.input ≡ input → (m : MdsValue) → RunsSo IsSo HeardAny AnyCompound cases (waiting_walk IsSo HeardAny AnyCompound cases runs) e.now input m
+    runs_at : (input : MdsInput) → e.input ≡ input → (m : MdsValue) → RunsSo IsSo e.now input m
     runs_at (Hears from asked) at m =
-        (λ xid c is. compound_walk IsSo HeardAny AnyCompound cases runs e.now m from xid c, λ bytes is es ss i. sends m.calls ss (Answers from bytes) (given from bytes asked at is) i)
+        (λ xid c is. compound_walk IsSo HeardAny AnyCompound parts run_parts runs.any e.now m from xid c, λ bytes is es ss i. sends m.calls ss (Answers from bytes) (given from bytes asked at is) i)
     runs_at (IsTimedOut to which) at m = tt
     runs_at Ticks at m = tt
     runs_at (RecallsFile file) at m = tt
@@ -111,7 +120,7 @@ module _ (P : MdsSend → Type 0) (called : (s : MdsSend) → IsCall s → P s) 
     keeps : (m : MdsValue) → Keeps IsSo m (after_event e m)
     keeps m =
         becomes_keeps IsSo m (behind_begin e.now e.input m) (after_event e m) (begin_kept IsSo HeardAny AnyCompound cases (λ n request now es ss i. i) e.now e.input m)
-        (input_walk IsSo HeardAny AnyCompound cases (waiting_walk IsSo HeardAny AnyCompound cases runs) e.now e.input m (hears_any IsSo e.input) (runs_at e.input refl m))
+        (input_walk IsSo HeardAny AnyCompound parts (resumed IsSo HeardAny AnyCompound parts run_parts runs.any) (case_calls IsSo HeardAny AnyCompound cases) (case_outs IsSo HeardAny AnyCompound cases) e.now e.input m (hears_any IsSo e.input) (runs_at e.input refl m))
 
     sent_so : (m : MdsValue) → AreCalled m.calls → (s : MdsSend) → IsOneOf s (after_event e m).sends → P s
     sent_so m are s inside =

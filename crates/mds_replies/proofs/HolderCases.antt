@@ -2,7 +2,6 @@
 -- kept by every part of every event where it is in each of these cases.
 use Rattle.std.proofs.Common.{◌≡◌, ℕ, Bool, true, false, List, [], ◌∷◌, ◌++◌, Option, Some, filter}
 use Rattle.ff_xdr.specs.Form.{Value}
-use Rattle.rpc_record.specs.Replies.{RpcReply, reply_bytes}
 use Rattle.compound_reply.specs.Replied.{success_reply}
 use Rattle.cluster_model.specs.declared.ids.NodeId.{NodeId}
 use Rattle.cluster_model.specs.declared.ids.NodeId.TheVariants.{Client}
@@ -26,11 +25,11 @@ use Rattle.nfs4_types.specs.declared.ids.SessionId.{SessionId}
 use Rattle.nfs4_types.specs.declared.status.Stat4.TheVariants as stat
 use Rattle.nfs4_session.specs.declared.begin.SlotPass.{SlotPass}
 use Rattle.mds_rule.specs.OpSteps.{refused_as}
-use Rattle.nfs4_session.specs.TableLaw.{TableMove, ExchangeId, CreateSession, BeginRequest, FinishRequest, Bind, CallBack, DestroySession, DestroyClient, Expire}
+use Rattle.nfs4_session.specs.TableLaw.{TableMove, FinishRequest, CallBack, DestroySession}
 use Rattle.recall.specs.declared.recall.Recall.{Recall}
 use Rattle.open_state.specs.Opens.{OpensValue}
 use Rattle.nfs4_compound.specs.Results.{resop4}
-use Rattle.mds_rule.specs.MdsStates.{CompoundRun, WaitingRead, WaitingWrite, ServedFile, MdsSend, CallsServer, CallsBack, Replies, Answers, AwaitedCall, MdsValue, confirmed_node, served, with_served}
+use Rattle.mds_rule.specs.MdsStates.{CompoundRun, WaitingRead, WaitingWrite, ServedFile, MdsSend, CallsServer, CallsBack, Replies, AwaitedCall, MdsValue, confirmed_node, served, with_served}
 use Rattle.mds_rule.specs.declared.waiter.Waiter.TheVariants.{ForFile, ForRead, ForWrite, ForRecall}
 use Rattle.mds_rule.specs.ServedFiles.{takes_input}
 use Rattle.mds_rule.specs.SessionOps.{confirms}
@@ -40,28 +39,24 @@ use Rattle.mds_rule.specs.Answers.{server_number, fileid_of, attributes_shown, o
 use Rattle.mds_rule.specs.Goes.{xid_after, calls_as, calls_server, has_xids}
 use Rattle.mds_laws.specs.MdsRunLaws.{IsUidOf}
 use Rattle.mds_replies.proofs.LegibleResults.{IsLegible}
-use Rattle.mds_laws.proofs.Keeping.{is_note, is_write_call, is_read_call, IsWriteOf, Becomes, Enters, Keeps, IsNoRequest, moved, TakesInput, HeardOf}
+use Rattle.mds_laws.proofs.Keeping.{is_note, is_write_call, is_read_call, IsWriteOf}
+use Rattle.mds_walk.proofs.Parts.{Becomes, Enters, Keeps, moved, TakesInput, HeardOf, AllWait, IsPlainMove}
 
 -- an input that neither an answer nor a timeout brings, and that is no return and no end of an own write
-abbrev pub comes_unasked : FileInput → Bool
-comes_unasked (AsksLayout client) = true
-comes_unasked (OwnWrite at bytes) = true
-comes_unasked ToRecall = true
-comes_unasked (Returns client claimed places) = false
-comes_unasked (Revokes cause) = true
-comes_unasked (OwnEnds causes at bytes) = false
-comes_unasked Resilver = true
-comes_unasked (IsAnswer xid reply) = false
-comes_unasked (TimesOut xid) = false
-comes_unasked Ticks = true
-comes_unasked (Sees id seen) = false
+abbrev pub is_plain_input : FileInput → Bool
+is_plain_input (AsksLayout client) = true
+is_plain_input (OwnWrite at bytes) = true
+is_plain_input ToRecall = true
+is_plain_input (Returns client claimed places) = false
+is_plain_input (Revokes cause) = true
+is_plain_input (OwnEnds causes at bytes) = false
+is_plain_input Resilver = true
+is_plain_input (IsAnswer xid reply) = false
+is_plain_input (TimesOut xid) = false
+is_plain_input Ticks = true
+is_plain_input (Sees id seen) = false
 
 -- ---- the compounds that wait for a file
-
--- each of them is so
-pub record AllWait (W : CompoundRun → Type 0) (reads : List WaitingRead) (write : Option WaitingWrite) : Type 0 where
-  pub reads_so : (r : WaitingRead) → IsOneOf r reads → W r.compound
-  pub write_so : (w : WaitingWrite) → write ≡ Some w → W w.compound
 
 -- of reads that are so, these are of the same compounds
 abbrev pub SameCompounds : List WaitingRead → List WaitingRead → Type 0
@@ -70,67 +65,6 @@ SameCompounds old new = (r : WaitingRead) → IsOneOf r new → (was : WaitingRe
 -- no client is confirmed from another node
 abbrev pub NoneNew : List (ℕ × NodeId) → List (ℕ × NodeId) → Type 0
 NoneNew old new = (p : ℕ × NodeId) → IsOneOf p new → IsOneOf p old
-
--- any compound
-abbrev pub AnyCompound : CompoundRun → Type 0
-AnyCompound c = Unit {0}
-
--- a call of the table of clients that begins no request and ends none, and destroys no session
-abbrev pub IsPlainMove : TableMove → Type 0
-IsPlainMove (BeginRequest request now) = ⊥
-IsPlainMove (DestroySession session) = ⊥
-IsPlainMove (ExchangeId verifier owner now) = Unit {0}
-IsPlainMove (CreateSession client sequence program node now) = Unit {0}
-IsPlainMove (FinishRequest pass reply) = ⊥
-IsPlainMove (Bind session node) = Unit {0}
-IsPlainMove (CallBack client) = Unit {0}
-IsPlainMove (DestroyClient client) = Unit {0}
-IsPlainMove (Expire now) = Unit {0}
-
-pub plain_no_request : (move : TableMove) → IsPlainMove move → IsNoRequest move
-plain_no_request (BeginRequest request now) is = is
-plain_no_request (DestroySession session) is = tt
-plain_no_request (ExchangeId verifier owner now) is = tt
-plain_no_request (CreateSession client sequence program node now) is = tt
-plain_no_request (FinishRequest pass reply) is = tt
-plain_no_request (Bind session node) is = tt
-plain_no_request (CallBack client) is = tt
-plain_no_request (DestroyClient client) is = tt
-plain_no_request (Expire now) is = tt
-
--- a call of the table that begins no request and ends none
-abbrev pub IsNoTurn : TableMove → Type 0
-IsNoTurn (BeginRequest request now) = ⊥
-IsNoTurn (FinishRequest pass reply) = ⊥
-IsNoTurn (DestroySession session) = Unit {0}
-IsNoTurn (ExchangeId verifier owner now) = Unit {0}
-IsNoTurn (CreateSession client sequence program node now) = Unit {0}
-IsNoTurn (Bind session node) = Unit {0}
-IsNoTurn (CallBack client) = Unit {0}
-IsNoTurn (DestroyClient client) = Unit {0}
-IsNoTurn (Expire now) = Unit {0}
-
-pub plain_no_turn : (move : TableMove) → IsPlainMove move → IsNoTurn move
-plain_no_turn (BeginRequest request now) is = is
-plain_no_turn (FinishRequest pass reply) is = is
-plain_no_turn (DestroySession session) is = tt
-plain_no_turn (ExchangeId verifier owner now) is = tt
-plain_no_turn (CreateSession client sequence program node now) is = tt
-plain_no_turn (Bind session node) is = tt
-plain_no_turn (CallBack client) is = tt
-plain_no_turn (DestroyClient client) is = tt
-plain_no_turn (Expire now) is = tt
-
-pub no_turn_no_request : (move : TableMove) → IsNoTurn move → IsNoRequest move
-no_turn_no_request (BeginRequest request now) none = none
-no_turn_no_request (FinishRequest pass reply) none = tt
-no_turn_no_request (DestroySession session) none = tt
-no_turn_no_request (ExchangeId verifier owner now) none = tt
-no_turn_no_request (CreateSession client sequence program node now) none = tt
-no_turn_no_request (Bind session node) none = tt
-no_turn_no_request (CallBack client) none = tt
-no_turn_no_request (DestroyClient client) none = tt
-no_turn_no_request (Expire now) none = tt
 
 -- ---- the cases
 
@@ -153,7 +87,7 @@ pub record Cases (I : MdsValue → List Entry → List MdsSend → Type 0) (Hear
       → Enters I m (with_served (takes_input m file (AsksLayout n)).mds file (with_holder client false t)) (takes_input m file (AsksLayout n)).entries
   -- an input of the table of phases: one that comes by itself, a timeout, an answer to a call of the file that is outstanding, and what an
   -- answer to an own write shows
-  pub inputs : (m : MdsValue) (file : FileId) (s : ServedFile) (input : FileInput) → comes_unasked input ≡ true → TakesInput I m file s input
+  pub inputs : (m : MdsValue) (file : FileId) (s : ServedFile) (input : FileInput) → is_plain_input input ≡ true → TakesInput I m file s input
   pub own_ends : (m : MdsValue) (file : FileId) (s : ServedFile) (failures : List (MirrorId × LeftCause)) (at : ℕ) (bytes : List ℕ) → TakesInput I m file s (OwnEnds (failures_by_place failures s.file.layout.live) at bytes)
   pub timeouts : (m : MdsValue) (file : FileId) (s : ServedFile) (xid : ℕ) → TakesInput I m file s (TimesOut xid)
   pub hears : (m : MdsValue) (file : FileId) (s : ServedFile) (call : AwaitedCall) (server own uid : ℕ) (c : DsCallValue) (replies : DsCallValue → DsReplyValue) → Heard call replies
@@ -180,10 +114,6 @@ pub record Cases (I : MdsValue → List Entry → List MdsSend → Type 0) (Hear
   pub forgets : (m : MdsValue) (test : AwaitedCall → Bool) → Becomes I m (record m { calls = filter test m.calls })
   pub was : (m : MdsValue) (es : List Entry) (ss : List MdsSend) → I m es ss → (call : AwaitedCall) → IsOneOf call m.calls → IsOneOf call.sent ss
   pub again : (m : MdsValue) (s : MdsSend) (es : List Entry) (ss : List MdsSend) → I m es ss → IsOneOf s ss → I m es (ss ++ s ∷ [])
-
--- what is answered at once is answered by a reply
-abbrev pub GivesAnswers : (MdsValue → List Entry → List MdsSend → Type 0) → Type 0
-GivesAnswers I = (m : MdsValue) (node : NodeId) (bytes : List ℕ) (reply : RpcReply) → bytes ≡ reply_bytes reply → (es : List Entry) (ss : List MdsSend) → I m es ss → I m es (ss ++ Answers node bytes ∷ [])
 
 -- where compounds are run: what they reply, which is of success, what the slot keeps of it, the returns in them, who is confirmed, and the
 -- sessions that they destroy

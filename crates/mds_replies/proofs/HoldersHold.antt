@@ -28,18 +28,18 @@ use Rattle.mds_rule.specs.declared.waiter.Waiter.TheVariants.{ForFile, ForRead, 
 use Rattle.mds_rule.specs.ServedFiles.{has_fresh, is_period_end, kept_holder, file_behind, file_stepped, input_at, takes_input}
 use Rattle.mds_rule.specs.FileOps.{servers_of, new_served, with_new_file}
 use Rattle.mds_rule.specs.LayoutOps.{with_holder}
-use Rattle.mds_laws.specs.MdsRuns.{MdsEvent, mds_run}
-use Rattle.mds_laws.proofs.Lists.{AllOf, all_push, all_set, all_got}
-use Rattle.mds_laws.proofs.Keeping.{HeardAny}
+use Rattle.mds_walk.specs.MdsRuns.{MdsEvent, mds_run}
+use Rattle.mds_walk.proofs.Lists.{AllOf, all_push, all_set, all_got}
+use Rattle.mds_walk.proofs.Parts.{HeardAny, AnyCompound}
 use Rattle.mds_laws.proofs.Numbers.{WereSent, sent_more, sent_with, sent_kept}
-use Rattle.mds_laws.proofs.OpsWalk.{place_served, served_again}
+use Rattle.mds_walk.proofs.Served.{place_served, served_again}
 use Rattle.mds_replies.specs.ClientCalls.{server_after}
 use Rattle.mds_replies.proofs.NowUids.{Agrees, now_uid, now_by}
 use Rattle.mds_replies.proofs.CallsLeave.{out_layout, out_agrees}
 use Rattle.mds_replies.proofs.EndsOnce.{FileAgrees, Came, Was, IsDrawn, came_of}
 use Rattle.mds_replies.proofs.FileEnds.{phase_uses}
 use Rattle.mds_replies.proofs.HeldFiles.{After, GoesOn, IsOver, held_after}
-use Rattle.mds_replies.proofs.HolderCases.{Cases, RunCases, AnyCompound}
+use Rattle.mds_replies.proofs.HolderCases.{Cases, RunCases}
 use Rattle.mds_replies.proofs.GoesWalk.{in_each_run}
 
 -- ---- uids and names that are left

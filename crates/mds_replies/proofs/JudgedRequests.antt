@@ -19,7 +19,7 @@ use Rattle.mds_calls.specs.MdsCalls.{SlotCallValue, OnSlot, ask_on_slot}
 use Rattle.mds_calls.specs.MdsCalls as slot
 use Rattle.mds_calls.specs.MdsReplies.{MdsAnswerValue, Refused, MdsReplyValue, slot_status, slot_told, results_of_ask, reply_of_ask}
 use Rattle.mds_rule.specs.OpSteps.{refused_as}
-use Rattle.mds_laws.specs.MdsRuns.{MdsEvent}
+use Rattle.mds_walk.specs.MdsRuns.{MdsEvent}
 use Rattle.mds_replies.specs.AnsweredRequests.{TookEffectAmong, IsRefusedWith, HasNoSession, IsOutOfOrder}
 use Rattle.mds_replies.proofs.ReplyForms.{IsRefusal, reply_fits}
 use Rattle.mds_replies.proofs.ReplySent.{read_as}

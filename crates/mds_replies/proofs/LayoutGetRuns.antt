@@ -41,13 +41,13 @@ use Rattle.mds_rule.specs.OpSteps.{OpStep, refuses, refused_as, refused_or}
 use Rattle.mds_rule.specs.FileOps.{file_or_none}
 use Rattle.mds_rule.specs.LayoutOps.{layout_found, size_for, with_holder, layout_of_file, granted_in, grants_to, is_granted, is_try_later, phase_behind, later_by}
 use Rattle.mds_rule.specs.Compounds.{operate, has_session, op_then, runs}
-use Rattle.mds_laws.proofs.Lists.{in_more}
-use Rattle.mds_laws.proofs.OpsWalk.{served_again}
+use Rattle.mds_walk.proofs.Lists.{in_more}
+use Rattle.mds_walk.proofs.Served.{served_again}
 use Rattle.mds_replies.specs.LayoutReplies.{HasPeriod}
 use Rattle.mds_replies.specs.AnsweredRequests.{IsGrantedNow}
 use Rattle.mds_replies.proofs.GrantRead.{body_short}
 use Rattle.mds_replies.proofs.HoldersHold.{IsByClient, HolderHolds, IsAsked, asked_is, next_fits}
-use Rattle.mds_replies.proofs.LayoutHolders.{holds_none, again_holds, new_free}
+use Rattle.mds_walk.proofs.LayoutHolders.{holds_none, again_holds, new_free}
 use Rattle.mds_replies.proofs.ReplyForms.{IsRefusal, in_order, reply_fits}
 use Rattle.mds_replies.proofs.SameTables.{SameTable, same_table, input_same, asks_same}
 use Rattle.mds_replies.proofs.TakenRequests.{run_with, HasEnded, put_first, numbered_file}

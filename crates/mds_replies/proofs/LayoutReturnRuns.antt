@@ -47,7 +47,7 @@ use Rattle.mds_rule.specs.Compounds.{operate, has_session, op_then, runs}
 use Rattle.mds_replies.specs.LayoutReplies.{HasPeriod}
 use Rattle.mds_replies.specs.AnsweredRequests.{NamesNone}
 use Rattle.mds_replies.proofs.HoldersHold.{IsByClient, HolderHolds}
-use Rattle.mds_replies.proofs.LayoutHolders.{holds_none}
+use Rattle.mds_walk.proofs.LayoutHolders.{holds_none}
 use Rattle.mds_replies.proofs.PeriodKept.{at_place}
 use Rattle.mds_replies.proofs.ReplyForms.{IsRefusal, in_order, reply_fits}
 use Rattle.mds_replies.proofs.ReportedMirrors.{errors_for, errors_again}

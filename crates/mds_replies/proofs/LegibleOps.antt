@@ -48,7 +48,7 @@ use Rattle.mds_rule.specs.SessionOps.{reclaims}
 use Rattle.mds_rule.specs.FileOps.{client_of, current_file, put_object, get_object, object_handle, can_open, may_make, creation_in, open_result, opens_or_makes, name_in, runs_open, reads_at, read_length, read_ask, runs_read, write_ask, writes_file, write_result, is_delay, ends_by, write_refused, runs_write}
 use Rattle.mds_rule.specs.LayoutOps.{device_from, device_size, device_bytes, device_answer}
 use Rattle.mds_rule.specs.Compounds.{operate, has_session, operates, with_ops}
-use Rattle.mds_replies.proofs.LayoutHolders.{holds_none}
+use Rattle.mds_walk.proofs.LayoutHolders.{holds_none}
 use Rattle.mds_replies.proofs.ReplyForms.{in_order}
 use Rattle.mds_replies.proofs.LegibleResults.{IsLegible, as_it_is, write_legible, open_legible, too_small_legible}
 use Rattle.mds_replies.proofs.LegibleReplies.{IsLegibleSoFar, legible_more}

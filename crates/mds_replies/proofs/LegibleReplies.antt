@@ -16,7 +16,7 @@ use Rattle.mds_calls.specs.MdsCalls as slot
 use Rattle.mds_calls.specs.MdsReplies.{MdsReplyValue, slot_answer_of, slot_told, reply_of_ask}
 use Rattle.mds_rule.specs.MdsStates.{CompoundRun}
 use Rattle.mds_rule.specs.Compounds.{compound_bytes, sequence_result}
-use Rattle.mds_laws.proofs.Lists.{AllOf, all_push}
+use Rattle.mds_walk.proofs.Lists.{AllOf, all_push}
 use Rattle.mds_replies.proofs.LegibleResults.{IsLegible}
 use Rattle.mds_replies.proofs.ReplyForms.{reply_fits}
 use Rattle.mds_replies.proofs.ReplySent.{read_as}
@@ -50,6 +50,7 @@ TellsTaken bytes = (c : SlotCallValue) (xid : ℕ) → (reply_of_ask (ask_on_slo
 
 status_known : (status : Stat4) → IsTrue (list_any (nat_eq (stat4_number status)) stats4)
 status_known stat.Ok = refl
+status_known stat.Perm = refl
 status_known stat.NoEnt = refl
 status_known stat.Io = refl
 status_known stat.Access = refl
@@ -59,9 +60,11 @@ status_known stat.IsDir = refl
 status_known stat.Inval = refl
 status_known stat.Fbig = refl
 status_known stat.NoSpc = refl
+status_known stat.Rofs = refl
 status_known stat.NameTooLong = refl
 status_known stat.Stale = refl
 status_known stat.BadHandle = refl
+status_known stat.BadCookie = refl
 status_known stat.NotSupp = refl
 status_known stat.TooSmall = refl
 status_known stat.ServerFault = refl
@@ -69,8 +72,14 @@ status_known stat.Delay = refl
 status_known stat.NoFileHandle = refl
 status_known stat.MinorVersMismatch = refl
 status_known stat.StaleClientId = refl
+status_known stat.OldStateid = refl
 status_known stat.BadStateid = refl
+status_known stat.NotSame = refl
+status_known stat.AttrNotSupp = refl
+status_known stat.NoGrace = refl
 status_known stat.BadXdr = refl
+status_known stat.LocksHeld = refl
+status_known stat.BadOwner = refl
 status_known stat.OpIllegal = refl
 status_known stat.BadIoMode = refl
 status_known stat.BadSession = refl

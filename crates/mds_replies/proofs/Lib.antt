@@ -2,14 +2,10 @@ pub mod NowUids
 pub mod FileEnds
 pub mod CallsLeave
 pub mod EndsOnce
-pub mod FewBytes
 pub mod LegibleResults
 pub mod HolderCases
 pub mod WaitingCompounds
-pub mod LayoutHolders
-pub mod ServedWalk
-pub mod OpsWalk
-pub mod CompoundWalk
+pub mod HolderParts
 pub mod GoesWalk
 pub mod HeldFiles
 pub mod PeriodKept

@@ -4,7 +4,7 @@ use Rattle.std.specs.Prelude.{◌==◌}
 use Rattle.std.specs.List.{All, AllPairs, find}
 use Rattle.std.proofs.lemmas.Bool.{cond_both, eqb-true, eq-eqb, ne_eqb}
 use Rattle.nfs4_session.specs.Clients.{change_first}
-use Rattle.mds_laws.proofs.Lists.{AllOf}
+use Rattle.mds_walk.proofs.Lists.{AllOf}
 
 pub all_from : {X : Type 0} (P : X → Type 0) (xs : List X) → All P xs → AllOf P xs
 all_from P [] all = tt

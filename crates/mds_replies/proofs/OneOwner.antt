@@ -10,7 +10,7 @@ use Rattle.nfs4_session.specs.TableLaw.{TableMove, ExchangeId as Exchanges, tabl
 use Rattle.mds_calls.specs.MdsCalls.{ExchangeId}
 use Rattle.mds_rule.specs.MdsStates.{MdsValue, new_mds}
 use Rattle.mds_rule.specs.Goes.{calls_out}
-use Rattle.mds_laws.specs.MdsRuns.{MdsInput, MdsEvent, Hears, after_event, run_from}
+use Rattle.mds_walk.specs.MdsRuns.{MdsInput, MdsEvent, Hears, after_event, run_from}
 use Rattle.mds_receive.specs.MdsReceive.{IncomingValue, IsCompound, incoming_of}
 use Rattle.mds_parts.specs.MdsResults.{in_arm}
 use Rattle.mds_replies.specs.ClientCalls.{server_after}

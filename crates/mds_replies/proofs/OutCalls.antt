@@ -1,12 +1,11 @@
 -- The calls that go out are no replies.
-use Rattle.std.proofs.Common.{◌≡◌, ℕ, List, [], ◌∷◌, ◌++◌, subst, inl, inr, ◌⊎◌, sym}
+use Rattle.std.proofs.Common.{◌≡◌, ℕ, List, [], ◌∷◌, ◌++◌, subst, inl, inr, ◌⊎◌, sym, Option, Some, None}
 use Rattle.compound_reply.specs.Replied.{success_reply}
 use Rattle.cluster_model.specs.declared.ids.NodeId.TheVariants.{Server}
 use Rattle.cluster_model.specs.declared.entry.Entry.{Entry}
 use Rattle.device_addr.specs.Universal.{AddressValue}
-use Rattle.mds_rule.specs.MdsStates.{MdsSend, CallsServer, CallsBack, Replies, Answers, AwaitedCall, MdsValue, MdsStep, with_call, new_mds}
+use Rattle.mds_rule.specs.MdsStates.{MdsSend, CallsServer, CallsBack, Replies, Answers, AwaitedCall, MdsValue, MdsStep, with_call, new_mds, ServedFile, sends_none, served, with_served}
 use Rattle.mds_rule.specs.declared.waiter.Waiter.TheVariants.{ForFile, ForRead, ForWrite, ForRecall}
-use Rattle.std.proofs.Common.{Option, Some, None}
 use Rattle.std.specs.List.{list_any}
 use Rattle.std.proofs.lemmas.Bool.{cond_both}
 use Rattle.cluster_model.specs.declared.ids.FileId.{FileId}
@@ -16,17 +15,17 @@ use Rattle.layout_report.specs.Reports.{report_of}
 use Rattle.mds_rule.specs.Answers.{own_answer, failures_by_place}
 use Rattle.mds_rows.specs.Draws.{drawn}
 use Rattle.recall.specs.Recalls.{without_file}
-use Rattle.mds_rule.specs.MdsStates.{ServedFile, sends_none, served, with_served}
 use Rattle.mds_rule.specs.ServedFiles.{has_fresh, is_period_end, file_behind, file_stepped, input_at}
-use Rattle.mds_laws.specs.MdsRuns.{MdsEvent, mds_run}
-use Rattle.mds_laws.proofs.Lists.{in_with_call, in_filtered}
+use Rattle.mds_walk.specs.MdsRuns.{MdsEvent, mds_run}
+use Rattle.mds_walk.proofs.Lists.{in_with_call, in_filtered}
 use Rattle.mds_laws.proofs.Numbers.{WereSent, sent_more, sent_with, sent_kept}
-use Rattle.mds_laws.proofs.Keeping.{HeardAny}
-use Rattle.mds_replies.proofs.HolderCases.{Cases, RunCases, OutCases, AnyCompound}
+use Rattle.mds_walk.proofs.Parts.{HeardAny, AnyCompound}
+use Rattle.mds_replies.proofs.HolderCases.{Cases, RunCases, OutCases}
 use Rattle.cluster_model.specs.declared.phase.EndCause.TheVariants.{ClientGone}
 use Rattle.cluster_model.specs.Members.{IsOneOf}
 use Rattle.mds_rule.specs.SessionOps.{gone_with}
-use Rattle.mds_replies.proofs.ServedWalk.{client_ends}
+use Rattle.mds_walk.proofs.ServedWalk.{client_ends}
+use Rattle.mds_replies.proofs.HolderParts.{case_parts}
 use Rattle.mds_replies.proofs.PeriodKept.{sent_with_calls, in_sent}
 use Rattle.mds_replies.proofs.GoesWalk.{in_each_run}
 
@@ -116,7 +115,7 @@ are_called servers mirrors events = (in_each_run IsSo AnyCompound cases runs (λ
 pub gone_called : (client : Option ℕ) (m : MdsValue) → AreCalled m.calls → AreCalled (gone_with client m).mds.calls
 gone_called None m all = all
 gone_called (Some client) m all =
-    ((client_ends IsSo HeardAny AnyCompound cases m client ClientGone).enters [] (sent_with_calls m.calls) (record { called = all; were = λ call inside. in_sent call m.calls inside })).called
+    ((client_ends IsSo HeardAny AnyCompound (case_parts IsSo HeardAny AnyCompound cases) m client ClientGone).enters [] (sent_with_calls m.calls) (record { called = all; were = λ call inside. in_sent call m.calls inside })).called
 
 -- ---- what goes out
 

@@ -29,16 +29,16 @@ use Rattle.mds_rule.specs.declared.waiter.Waiter.TheVariants.{ForFile, ForRead, 
 use Rattle.mds_rule.specs.ServedFiles.{has_fresh, is_period_end, kept_holder, file_behind, file_stepped, input_at, takes_input}
 use Rattle.mds_rule.specs.FileOps.{servers_of, new_served, with_new_file}
 use Rattle.mds_rule.specs.LayoutOps.{with_holder, is_granted}
-use Rattle.mds_laws.specs.MdsRuns.{MdsEvent, run_from}
-use Rattle.mds_laws.proofs.Lists.{in_more, AllOf, all_push, all_set, all_got}
-use Rattle.mds_laws.proofs.Keeping.{HeardAny, Enters}
+use Rattle.mds_walk.specs.MdsRuns.{MdsEvent, run_from}
+use Rattle.mds_walk.proofs.Lists.{in_more, AllOf, all_push, all_set, all_got}
+use Rattle.mds_walk.proofs.Parts.{HeardAny, Enters, AnyCompound}
 use Rattle.mds_laws.proofs.Numbers.{WereSent, sent_more, sent_with, sent_kept}
 use Rattle.mds_replies.proofs.NowUids.{Agrees}
 use Rattle.mds_replies.proofs.CallsLeave.{out_layout, out_agrees}
 use Rattle.mds_replies.proofs.EndsOnce.{FileAgrees}
 use Rattle.mds_replies.proofs.FileEnds.{phase_uses}
 use Rattle.mds_replies.proofs.HeldFiles.{HasEnd, IsHeld, After, GoesOn, IsOver, held_after, in_behind}
-use Rattle.mds_replies.proofs.HolderCases.{Cases, RunCases, AnyCompound}
+use Rattle.mds_replies.proofs.HolderCases.{Cases, RunCases}
 use Rattle.mds_replies.proofs.GoesWalk.{run_walk}
 
 -- ---- a file at a place

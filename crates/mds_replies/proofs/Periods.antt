@@ -12,8 +12,8 @@ use Rattle.cluster_model.specs.declared.entry.Entry.{Entry}
 use Rattle.cluster_model.specs.declared.entry.Entry.TheVariants as entry
 use Rattle.cluster_model.specs.Members.{IsOneOf}
 use Rattle.mds_rule.specs.MdsStates.{ServedFile, MdsValue, new_mds}
-use Rattle.mds_laws.specs.MdsRuns.{MdsEvent, after_event, run_from, mds_run}
-use Rattle.mds_laws.proofs.Lists.{in_more}
+use Rattle.mds_walk.specs.MdsRuns.{MdsEvent, after_event, run_from, mds_run}
+use Rattle.mds_walk.proofs.Lists.{in_more}
 use Rattle.mds_replies.specs.ClientCalls.{server_after}
 use Rattle.mds_replies.specs.LayoutReplies.{HasPeriod, EntersEnd, PeriodsGoOn, PeriodsEnd, PeriodsAreOwn}
 use Rattle.mds_replies.proofs.NowUids.{now_by, now_uid}

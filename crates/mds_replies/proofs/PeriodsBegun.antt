@@ -10,12 +10,11 @@ use Rattle.cluster_model.specs.declared.ids.FileId.{FileId}
 use Rattle.cluster_model.specs.declared.entry.Entry.{Entry}
 use Rattle.cluster_model.proofs.Elements.{slice_get-set_other, slice_get-set_same, slice_get-push, Pushed, Old, New, pushed}
 use Rattle.file_rule.specs.MdsFiles.{MdsFile, FileStep}
-use Rattle.file_rule.specs.FilePhases.{FileInput, AsksLayout, Returns, OwnEnds, Answers as IsAnswer, TimesOut, Sees, new_mds_file, phase}
+use Rattle.file_rule.specs.FilePhases.{FileInput, AsksLayout, Returns, OwnEnds, Answers as IsAnswer, TimesOut, Sees, new_mds_file, phase, creations_at}
 use Rattle.cluster_model.specs.declared.layout_state.LayoutPhase.TheVariants.{Making, Held}
 use Rattle.cluster_model.specs.declared.call_stage.CallStage.TheVariants.{Waits}
 use Rattle.cluster_model.specs.Phases.{ids_of}
 use Rattle.file_rule.specs.declared.creation.Creation.{Creation}
-use Rattle.file_rule.specs.FilePhases.{creations_at}
 use Rattle.mds_rows.specs.Draws.{drawn}
 use Rattle.recall.specs.Recalls.{without_file}
 use Rattle.device_addr.specs.Universal.{AddressValue}
@@ -27,15 +26,16 @@ use Rattle.mds_rule.specs.declared.waiter.Waiter.TheVariants.{ForFile, ForRead, 
 use Rattle.mds_rule.specs.ServedFiles.{has_fresh, is_period_end, file_behind, file_stepped, input_at, takes_input}
 use Rattle.mds_rule.specs.FileOps.{nth_server, servers_of, new_served, with_new_file}
 use Rattle.mds_rule.specs.LayoutOps.{with_holder}
-use Rattle.mds_laws.specs.MdsRuns.{MdsEvent, mds_run}
-use Rattle.mds_laws.proofs.Keeping.{is_note, HeardAny}
+use Rattle.mds_walk.specs.MdsRuns.{MdsEvent, mds_run}
+use Rattle.mds_laws.proofs.Keeping.{is_note}
+use Rattle.mds_walk.proofs.Parts.{HeardAny, AnyCompound}
 use Rattle.mds_laws.proofs.Numbers.{WereSent, sent_more, sent_with, sent_kept}
 use Rattle.cluster_laws.specs.FenceLaw.{live_in}
 use Rattle.cluster_laws.proofs.Journals.{live_append}
 use Rattle.cluster_laws.proofs.FewMirrors.{FileHasFew}
 use Rattle.mds_replies.specs.ClientCalls.{server_after}
 use Rattle.mds_replies.specs.PeriodEntries.{IsBegun, PeriodsBegin}
-use Rattle.mds_replies.proofs.HolderCases.{Cases, RunCases, AnyCompound, comes_unasked}
+use Rattle.mds_replies.proofs.HolderCases.{Cases, RunCases, is_plain_input}
 use Rattle.mds_replies.proofs.GoesWalk.{in_each_run}
 use Rattle.mds_replies.proofs.PeriodKept.{at_place, is_some_number}
 use Rattle.mds_replies.proofs.MirrorsTold.{IsOf, LeaveSo, Tells, phase_tells}
@@ -112,7 +112,7 @@ inputs m file s input leave at es ss i =
     cond_both (list_any is_period_end step.entries) (record n { recalls = without_file file n.recalls }) n (λ (x : MdsValue). Stands x.mirrors x.files x.calls (es ++ step.entries) ss) (λ end. new) (λ off. new)
 
 -- an input that says of no mirror that it leaves
-unasked_leave : (file : FileId) (f : MdsFile) (input : FileInput) → comes_unasked input ≡ true → LeaveSo file f input
+unasked_leave : (file : FileId) (f : MdsFile) (input : FileInput) → is_plain_input input ≡ true → LeaveSo file f input
 unasked_leave file f (Returns client claimed places) is = absurd cc
 unasked_leave file f (OwnEnds causes at bytes) is = absurd cc
 unasked_leave file f input is = tt

@@ -15,7 +15,7 @@ use Rattle.mds_calls.specs.MdsReplies.{MdsAnswerValue, MdsReplyValue, Refused, r
 use Rattle.mds_operations.specs.Orders.{Order, refusal}
 use Rattle.mds_rule.specs.OpSteps.{refused_as}
 use Rattle.mds_rule.specs.Compounds.{sequence_result}
-use Rattle.mds_laws.proofs.Lists.{AllOf}
+use Rattle.mds_walk.proofs.Lists.{AllOf}
 use Rattle.mds_replies.proofs.ReplySent.{read_as}
 use Rattle.mds_replies.proofs.ExchangeRuns.{no_tag}
 

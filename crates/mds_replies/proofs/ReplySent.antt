@@ -21,8 +21,8 @@ use Rattle.mds_rule.specs.MdsStates.{MdsSend, CallsServer, CallsBack, Replies, A
 use Rattle.mds_rule.specs.Compounds.{first_operation, runs_compound}
 use Rattle.mds_rule.specs.Events.{takes_incoming}
 use Rattle.mds_rule.specs.Goes.{calls_out}
-use Rattle.mds_laws.specs.MdsRuns.{MdsInput, MdsEvent, by_input, after_event}
-use Rattle.mds_laws.proofs.Lists.{in_more}
+use Rattle.mds_walk.specs.MdsRuns.{MdsInput, MdsEvent, by_input, after_event}
+use Rattle.mds_walk.proofs.Lists.{in_more}
 use Rattle.mds_replies.specs.ClientCalls.{IsCallFrom}
 use Rattle.mds_replies.proofs.HeldFiles.{in_behind}
 use Rattle.mds_replies.proofs.PeriodKept.{sent_with_calls, in_sent}

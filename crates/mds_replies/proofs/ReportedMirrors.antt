@@ -32,7 +32,7 @@ use Rattle.mds_rule.specs.MdsStates.{ServedFile, MdsValue, MdsStep, sends_none, 
 use Rattle.mds_rule.specs.ServedFiles.{has_fresh, file_stepped, input_at, takes_input}
 use Rattle.mds_rule.specs.LayoutOps.{errors_in, errors_of, client_number}
 use Rattle.mds_calls.specs.FittingCalls.{reports_server}
-use Rattle.mds_laws.proofs.Lists.{in_last}
+use Rattle.mds_walk.proofs.Lists.{in_last}
 
 abbrev pub errors_for : Stateid → List FailedMirror → List (Value ff_ioerr4)
 errors_for stateid failed = map (io_error_of stateid) failed

@@ -19,7 +19,7 @@ use Rattle.file_rule.specs.FilePhases.{Returns, held_in, by_client, returned_row
 use Rattle.mds_rule.specs.MdsStates.{ServedFile, MdsValue, MdsStep, sends_none, served}
 use Rattle.mds_rule.specs.ServedFiles.{has_fresh, file_stepped, input_at, takes_input}
 use Rattle.mds_rule.specs.LayoutOps.{client_number}
-use Rattle.mds_laws.proofs.Lists.{in_last}
+use Rattle.mds_walk.proofs.Lists.{in_last}
 
 abbrev pub EndsSo : FileId → Cred → List Entry → Type 0
 EndsSo file cred entries = IsOneOf (entry.Ended file cred Returned) entries ⊎ IsOneOf (entry.Ended file cred AllReported) entries

@@ -48,10 +48,10 @@ use Rattle.mds_rule.specs.OpSteps.{with_result, refused_as}
 use Rattle.mds_rule.specs.LayoutOps.{no_stateid}
 use Rattle.mds_rule.specs.Compounds.{finishes, in_slot, sequenced, sequence_result}
 use Rattle.mds_rule.specs.Goes.{calls_out}
-use Rattle.mds_laws.specs.MdsRuns.{MdsInput, MdsEvent, Hears, IsTimedOut, Ticks, RecallsFile, Resilvers, after_event, run_from}
-use Rattle.mds_laws.proofs.Lists.{AllOf}
-use Rattle.mds_laws.proofs.Keeping.{HeardAny, Keeps}
-use Rattle.mds_laws.proofs.OpsWalk.{served_again}
+use Rattle.mds_walk.specs.MdsRuns.{MdsInput, MdsEvent, Hears, IsTimedOut, Ticks, RecallsFile, Resilvers, after_event, run_from}
+use Rattle.mds_walk.proofs.Lists.{AllOf}
+use Rattle.mds_walk.proofs.Parts.{HeardAny, Keeps}
+use Rattle.mds_walk.proofs.Served.{served_again}
 use Rattle.mds_replies.specs.ClientCalls.{IsCallFrom, server_after, IsEventOf}
 use Rattle.mds_replies.specs.SlotReplies.{request_of, EffectsAreNumbered}
 use Rattle.mds_replies.specs.AnsweredRequests.{HearsFitCall, AreFitCalls, StaysRoomy}
@@ -156,7 +156,7 @@ module _ (E : Entry → Type 0) (plain : (e : Entry) → IsNoReturn e → E e) w
 -- ---- behind each run
 
 record WaitsLeft (m : MdsValue) : Type 0 where
-  pub waits : AllOf (λ (s : ServedFile). Rattle.mds_replies.proofs.HolderCases.AllWait Left s.reads s.write) m.files
+  pub waits : AllOf (λ (s : ServedFile). Rattle.mds_walk.proofs.Parts.AllWait Left s.reads s.write) m.files
 
 starts : (E : Entry → Type 0) (plain : (e : Entry) → IsNoReturn e → E e) (m : MdsValue) → WaitsLeft m → So E plain m [] (sent_with_calls m.calls)
 starts E plain m w = record { waits = w.waits; table = tt; entries = tt; replies = λ node reply inside. tt; were = λ call inside. in_sent call m.calls inside }
@@ -269,7 +269,7 @@ module _ (numbered : EffectsAreNumbered) (servers : List AddressValue) (mirrors 
 
     step_waits : WaitsLeft step.mds
     step_waits = record {
-      waits = subst (λ (s : MdsStep). AllOf (λ (x : ServedFile). Rattle.mds_replies.proofs.HolderCases.AllWait Left x.reads x.write) s.mds.files)
+      waits = subst (λ (s : MdsStep). AllOf (λ (x : ServedFile). Rattle.mds_walk.proofs.Parts.AllWait Left x.reads x.write) s.mds.files)
           (Rattle.mds_replies.proofs.TakenRequests.taken_is e.now (server_after servers mirrors before) node xid name session number call effect)
           (call_keeps AnyEntry (λ x none. tt) e.now (server_after servers mirrors before) node xid name (OnSlot session number call) (λ is takes x. tt) [] (sent_with_calls (server_after servers mirrors before).calls)
           (starts AnyEntry (λ x none. tt) (server_after servers mirrors before) waits)).waits;

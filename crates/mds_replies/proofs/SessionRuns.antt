@@ -20,7 +20,7 @@ use Rattle.mds_rule.specs.OpSteps.{refused_as}
 use Rattle.mds_rule.specs.SessionOps.{create_result, with_create, confirms}
 use Rattle.mds_rule.specs.Compounds.{op_then, runs}
 use Rattle.mds_rule.specs.Goes.{calls_out}
-use Rattle.mds_laws.specs.MdsRuns.{MdsEvent, after_event}
+use Rattle.mds_walk.specs.MdsRuns.{MdsEvent, after_event}
 use Rattle.mds_replies.specs.ClientCalls.{server_after}
 use Rattle.device_addr.specs.Universal.{AddressValue}
 use Rattle.mds_replies.specs.ClientIds.{GivesSession, SessionsAreOwn}

@@ -32,8 +32,8 @@ use Rattle.mds_calls.specs.MdsCompounds.{mds_ops}
 use Rattle.mds_calls.specs.MdsReplies.{MdsAnswerValue, MdsReplyValue, reply_of_ask}
 use Rattle.mds_receive.specs.MdsReceive.{IncomingValue, IsCompound, incoming_of}
 use Rattle.mds_rule.specs.MdsStates.{CompoundRun}
-use Rattle.mds_laws.specs.MdsRuns.{MdsInput, MdsEvent, Hears}
-use Rattle.mds_laws.specs.SlotUses.{first_request}
+use Rattle.mds_walk.specs.MdsRuns.{MdsInput, MdsEvent, Hears}
+use Rattle.mds_walk.specs.FirstRequests.{first_request}
 use Rattle.mds_replies.specs.ClientCalls.{IsCallFrom, server_after, IsEventOf}
 use Rattle.mds_replies.specs.SlotReplies.{request_of, TookEffect}
 use Rattle.mds_replies.proofs.LegibleReplies.{TellsTaken, IsLegibleSoFar}

@@ -16,8 +16,8 @@ use Rattle.nfs4_session.specs.TableLaw.{Bind, KeepsTable}
 use Rattle.table_slots.specs.TableSlots.{is_of_session, table_from}
 use Rattle.mds_calls.specs.MdsCalls.{SlotCallValue}
 use Rattle.mds_rule.specs.MdsStates.{MdsValue}
-use Rattle.mds_laws.specs.MdsRuns.{MdsEvent}
-use Rattle.mds_laws.proofs.Requested.{begun_moves}
+use Rattle.mds_walk.specs.MdsRuns.{MdsEvent}
+use Rattle.mds_walk.proofs.Requested.{begun_moves}
 use Rattle.mds_replies.specs.ClientCalls.{server_after, IsEventOf}
 use Rattle.mds_replies.specs.SlotReplies.{request_of, TookEffect, count_taken, EffectsAreNumbered}
 use Rattle.mds_replies.specs.AnsweredRequests.{AreFitCalls, StaysRoomy, TookEffectAmong, IsFreeAt}

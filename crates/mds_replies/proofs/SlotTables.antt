@@ -19,9 +19,9 @@ use Rattle.nfs4_session.specs.Requests.{answer_by_slot, answer_by_session, reque
 use Rattle.nfs4_session.specs.Bindings.{bound_to, bound_last, client_bound, last_session, called_back, client_called_back}
 use Rattle.nfs4_session.specs.Ends.{without_client, destroy_client_fault, has_ended}
 use Rattle.nfs4_session.specs.TableLaw.{TableMove, ExchangeId, CreateSession, BeginRequest, FinishRequest, Bind, CallBack, DestroySession, DestroyClient, Expire, table_after, exchanged_unless, called_back_by, destroyed_unless, expired_by}
-use Rattle.mds_replies.proofs.HolderCases.{IsNoTurn, no_turn_no_request}
-use Rattle.mds_laws.proofs.Keeping.{IsNoRequest}
-use Rattle.mds_laws.proofs.Lists.{AllOf, all_push, all_in, found_in, found_passes}
+use Rattle.mds_walk.proofs.Parts.{IsNoTurn}
+use Rattle.mds_laws.proofs.Keeping.{no_turn_no_request, IsNoRequest}
+use Rattle.mds_walk.proofs.Lists.{AllOf, all_push, all_in, found_in, found_passes}
 
 -- ---- lists of which the first that passes a test is changed or taken out
 

@@ -20,7 +20,7 @@ use Rattle.nfs4_session.specs.Bindings.{last_session}
 use Rattle.nfs4_session.specs.Ends.{without_client, destroy_client_fault, has_ended}
 use Rattle.nfs4_session.specs.declared.exchange.TheConstants.{MAX_OWNERS}
 use Rattle.nfs4_session.specs.TableLaw.{TableMove, ExchangeId, CreateSession, BeginRequest, FinishRequest, Bind, CallBack, DestroySession, DestroyClient, Expire, table_after, exchanged_unless, called_back_by, destroyed_unless, expired_by}
-use Rattle.mds_laws.proofs.Lists.{AllOf, all_push}
+use Rattle.mds_walk.proofs.Lists.{AllOf, all_push}
 
 -- ---- one record behind a call
 

@@ -18,10 +18,10 @@ use Rattle.mds_rule.specs.MdsStates.{ServedFile, MdsSend, CallsServer, CallsBack
 use Rattle.mds_rule.specs.declared.waiter.Waiter.TheVariants.{ForFile, ForRead, ForWrite, ForRecall}
 use Rattle.mds_rule.specs.ServedFiles.{has_fresh, is_period_end, file_behind, file_stepped, input_at}
 use Rattle.mds_rule.specs.Goes.{calls_out}
-use Rattle.mds_laws.specs.MdsRuns.{MdsEvent, run_from}
-use Rattle.mds_laws.proofs.Keeping.{HeardAny}
+use Rattle.mds_walk.specs.MdsRuns.{MdsEvent, run_from}
+use Rattle.mds_walk.proofs.Parts.{HeardAny, AnyCompound}
 use Rattle.mds_laws.proofs.Numbers.{WereSent, sent_more, sent_with, sent_kept}
-use Rattle.mds_replies.proofs.HolderCases.{Cases, RunCases, AnyCompound, out_of}
+use Rattle.mds_replies.proofs.HolderCases.{Cases, RunCases, out_of}
 use Rattle.mds_replies.proofs.PeriodKept.{sent_with_calls, in_sent}
 use Rattle.mds_replies.proofs.GoesWalk.{out_walk, run_walk}
 

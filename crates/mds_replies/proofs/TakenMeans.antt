@@ -46,8 +46,8 @@ use Rattle.mds_rule.specs.ServedFiles.{file_stepped}
 use Rattle.mds_rule.specs.LayoutOps.{layout_of_file, no_stateid}
 use Rattle.mds_rule.specs.Compounds.{runs, sequence_result}
 use Rattle.mds_rule.specs.Goes.{calls_out}
-use Rattle.mds_laws.specs.MdsRuns.{MdsEvent, MdsInput, Hears, IsTimedOut, Ticks, RecallsFile, Resilvers, after_event}
-use Rattle.mds_laws.proofs.Lists.{in_more}
+use Rattle.mds_walk.specs.MdsRuns.{MdsEvent, MdsInput, Hears, IsTimedOut, Ticks, RecallsFile, Resilvers, after_event}
+use Rattle.mds_walk.proofs.Lists.{in_more}
 use Rattle.mds_replies.specs.ClientCalls.{IsCallFrom, HearsCall, AreCalls, server_after, IsEventOf}
 use Rattle.mds_replies.specs.SlotReplies.{request_of, TookEffect, EffectsAreNumbered}
 use Rattle.mds_replies.specs.LayoutReplies.{HasPeriod}

@@ -1,11 +1,10 @@
 -- A client's request on a slot that takes effect: the run of its operations behind the SEQUENCE, and how it ends.
-use Rattle.std.proofs.Common.{◌≡◌, ◌<◌, ℕ, Bool, true, false, cond, List, [], ◌∷◌, length, Option, Some, None, refl, sym, ap, subst}
+use Rattle.std.proofs.Common.{◌≡◌, ◌<◌, ℕ, Bool, true, false, cond, List, [], ◌∷◌, length, Option, Some, None, refl, sym, ap, subst, inl}
 use Rattle.std.specs.Prelude.{◌==◌, ◌^◌}
 use Rattle.std.proofs.lemmas.Bool.{cond_both}
 use Rattle.std.proofs.lemmas.Nat.{from_be_bytes-to_be_bytes_8}
 use Rattle.ff_xdr.specs.Arms.{arm}
 use Rattle.ff_xdr.specs.Form.{Value, Fits, spelling, long}
-use Rattle.std.proofs.Common.{inl}
 use Rattle.cluster_model.specs.declared.ids.NodeId.{NodeId}
 use Rattle.cluster_model.specs.declared.ids.FileId.{FileId}
 use Rattle.nfs4_types.specs.declared.ids.SessionId.{SessionId}

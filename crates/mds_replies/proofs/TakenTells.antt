@@ -23,7 +23,7 @@ use Rattle.mds_calls.specs.MdsReplies.{reply_of_ask}
 use Rattle.mds_rule.specs.MdsStates.{Replies, MdsValue}
 use Rattle.mds_rule.specs.LayoutOps.{layout_of_file, no_stateid}
 use Rattle.mds_rule.specs.Compounds.{runs, sequence_result}
-use Rattle.mds_laws.specs.MdsRuns.{MdsEvent, after_event}
+use Rattle.mds_walk.specs.MdsRuns.{MdsEvent, after_event}
 use Rattle.mds_replies.specs.ClientCalls.{IsCallFrom, server_after, IsEventOf}
 use Rattle.mds_replies.specs.SlotReplies.{request_of, EffectsAreNumbered}
 use Rattle.mds_replies.specs.AnsweredRequests.{AreFitCalls, StaysRoomy}

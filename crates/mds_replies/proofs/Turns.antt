@@ -6,7 +6,6 @@ use Rattle.std.proofs.lemmas.Bool.{cond_both}
 use Rattle.std.proofs.lemmas.List.{append-nil}
 use Rattle.std.proofs.lemmas.Option.{same_Some, none-some}
 use Rattle.ff_xdr.specs.Form.{Value, arm_of}
-use Rattle.ff_xdr.specs.Arms.{of_each_arm}
 use Rattle.rpc_record.specs.Replies.{RpcReply}
 use Rattle.compound_reply.specs.Replied.{success_reply}
 use Rattle.cluster_model.specs.declared.ids.NodeId.{NodeId}
@@ -18,7 +17,7 @@ use Rattle.cluster_model.specs.declared.entry.Entry.{Entry}
 use Rattle.cluster_model.specs.declared.entry.Entry.TheVariants as entry
 use Rattle.cluster_model.specs.Members.{IsOneOf}
 use Rattle.file_rule.specs.MdsFiles.{FileStep}
-use Rattle.file_rule.specs.FilePhases.{FileInput, AsksLayout, OwnWrite, Recall as ToRecall, Returns, Revokes, OwnEnds, Resilver, Answers as IsAnswer, TimesOut, Ticks, Sees, phase}
+use Rattle.file_rule.specs.FilePhases.{FileInput, AsksLayout, OwnWrite, Recall as ToRecall, Returns, Revokes, OwnEnds, Resilver, Answers as IsAnswer, TimesOut, Ticks, Sees, phase, new_mds_file}
 use Rattle.mds_rows.specs.Draws.{drawn}
 use Rattle.recall.specs.Recalls.{without_file}
 use Rattle.nfs4_types.specs.declared.ids.SessionId.{SessionId}
@@ -41,25 +40,28 @@ use Rattle.mds_rule.specs.declared.waiter.Waiter.TheVariants.{ForFile, ForRead, 
 use Rattle.mds_rule.specs.OpSteps.{OpStep, Goes, Ends, Waits, with_result, refuses, refused_as, stopped}
 use Rattle.mds_rule.specs.ServedFiles.{has_fresh, is_period_end, is_swap, begins_again, reads_behind, file_behind, file_stepped, input_at, takes_input}
 use Rattle.mds_rule.specs.FileOps.{servers_of, new_served, with_new_file}
-use Rattle.file_rule.specs.FilePhases.{new_mds_file}
-use Rattle.mds_rule.specs.LayoutOps.{with_holder}
+use Rattle.mds_rule.specs.LayoutOps.{with_holder, client_number}
 use Rattle.mds_rule.specs.Compounds.{operate, has_session, operates, compound_bytes, kept_in_slot, finishes, op_then, with_ops, runs}
 use Rattle.mds_rule.specs.Goes.{calls_out}
-use Rattle.mds_laws.specs.MdsRuns.{MdsInput, MdsEvent, Hears, IsTimedOut, Ticks as IsTick, RecallsFile, Resilvers, by_input, after_event}
-use Rattle.mds_laws.specs.SlotUses.{request_in}
-use Rattle.mds_laws.proofs.Lists.{AllOf, all_push, all_set, all_got}
-use Rattle.mds_laws.proofs.Keeping.{moved, HeardAny, Becomes, Keeps, KeepsOp, TakesInput, IsNoRequest, is_note, hears_any, then_keeps, same, becomes_keeps, enters_keeps, stays}
+use Rattle.mds_walk.specs.MdsRuns.{MdsInput, MdsEvent, Hears, IsTimedOut, Ticks as IsTick, RecallsFile, Resilvers, by_input, after_event}
+use Rattle.mds_walk.specs.FirstRequests.{request_in}
+use Rattle.mds_walk.proofs.Lists.{AllOf, all_push, all_set, all_got}
+use Rattle.mds_walk.proofs.Parts.{moved, HeardAny, Becomes, Keeps, TakesInput, IsNoTurn, AllWait, plain_no_turn, is_waiting_op}
+use Rattle.mds_walk.proofs.Keeping.{KeepsOp, hears_any, then_keeps, same, becomes_keeps, enters_keeps, stays}
+use Rattle.mds_laws.proofs.Keeping.{IsNoRequest, is_note, plain_no_request}
 use Rattle.mds_laws.proofs.Numbers.{WereSent, sent_more, sent_with, sent_kept}
-use Rattle.mds_laws.proofs.OpsWalk.{place_served}
-use Rattle.mds_laws.proofs.Requested.{behind_begin}
-use Rattle.mds_replies.proofs.HolderCases.{plain_no_request, IsNoTurn, plain_no_turn, AllWait, Cases, WaitCases, out_of, comes_unasked}
+use Rattle.mds_walk.proofs.Served.{place_served}
+use Rattle.mds_walk.proofs.Requested.{behind_begin}
+use Rattle.mds_replies.proofs.HolderCases.{Cases, WaitCases, out_of, is_plain_input}
 use Rattle.mds_replies.proofs.LegibleResults.{IsLegible}
 use Rattle.mds_replies.proofs.WaitingCompounds.{same_wait}
-use Rattle.mds_replies.proofs.ServedWalk.{exchanges, creates, binds, destroys_session, destroys_client, reclaims_all}
-use Rattle.mds_replies.proofs.OpsWalk.{puts_fh, gets_fh, looks_up, gets_attr, opens, closes_file, commits, reads, writes, layout_gets, layout_returns, layout_commits, device_infos}
-use Rattle.mds_replies.proofs.GoesWalk.{out_walk, input_walk, RunsSo}
+use Rattle.mds_replies.proofs.GoesWalk.{out_walk, input_walk}
+use Rattle.mds_walk.proofs.EventWalk.{RunsSo}
 use Rattle.mds_replies.proofs.EndCauses.{IsNoReturn, NoneReturned, IsNoReturnInput, phase_none}
 use Rattle.mds_replies.proofs.SameRuns.{Like, like_then, StepsLike, operate_like, operates_like}
+use Rattle.mds_walk.proofs.CompoundWalk.{operate_walk}
+use Rattle.mds_replies.proofs.HolderParts.{case_parts}
+use Rattle.cluster_model.specs.Phases.{holder_of}
 
 -- ---- lists
 
@@ -88,7 +90,7 @@ pub behind_wait : (W : CompoundRun → Type 0) (entries : List Entry) (live : Li
 behind_wait W entries live reads write a =
     cond_both (list_any is_swap entries) (map (begins_again live) reads) reads (λ (rs : List WaitingRead). AllWait W rs write) (λ is. record { reads_so = begins_wait W live reads a.reads_so; write_so = a.write_so }) (λ off. a)
 
-unasked_no_return : (input : FileInput) → comes_unasked input ≡ true → IsNoReturnInput input
+unasked_no_return : (input : FileInput) → is_plain_input input ≡ true → IsNoReturnInput input
 unasked_no_return (AsksLayout client) is = tt
 unasked_no_return (OwnWrite at bytes) is = tt
 unasked_no_return ToRecall is = tt
@@ -104,10 +106,6 @@ unasked_no_return (Sees id seen) is = tt
 note_no_return : (e : Entry) → is_note e ≡ true → IsNoReturn e
 note_no_return (entry.Ended file cred cause) is = absurd cc
 note_no_return e is = tt
-
--- the operations that wait for data servers: READ and WRITE
-abbrev pub is_waiting_op : ℕ → Bool
-is_waiting_op number = (number == 25) || (number == 38)
 
 abbrev pub has_waiting : List (Value argop4) → Bool
 has_waiting [] = false
@@ -367,68 +365,14 @@ module _ (W : CompoundRun → Type 0) (left : (c : CompoundRun) → W c → (c.o
       stepped m file s x at (all_any any x.entries) es ss i
 
   operate_keeps : (now : ℕ) (m : MdsValue) (c : CompoundRun) (op : Value argop4) → (is_waiting_op (arm_of argop4 op) ≡ true → W c) → ((arm_of argop4 op == 51) ≡ true → (e : Entry) → E e) → KeepsOp IsSo m (operate now m c op)
-  operate_keeps now m c op =
-      of_each_arm argop4 (λ (v : Value argop4). (is_waiting_op (arm_of argop4 v) ≡ true → W c) → ((arm_of argop4 v == 51) ≡ true → (e : Entry) → E e) → KeepsOp IsSo m (operate now m c v)) (
-        (λ close waits any. closes_file IsSo HeardAny W cases m c close),
-        (
-          (λ commit waits any. commits IsSo HeardAny W cases m c),
-          (
-            (λ words waits any. gets_attr IsSo HeardAny W cases m c words),
-            (
-              (λ nothing waits any. gets_fh IsSo HeardAny W cases m c),
-              (
-                (λ name waits any. looks_up IsSo HeardAny W cases m c name),
-                (
-                  (λ opening waits any. opens IsSo HeardAny W cases m c opening),
-                  (
-                    (λ handle waits any. puts_fh IsSo HeardAny W cases m c handle),
-                    (
-                      (λ nothing waits any. stays IsSo m),
-                      (
-                        (λ read waits any. reads IsSo HeardAny W cases m c read (waits refl)),
-                        (
-                          (λ write waits any. writes IsSo HeardAny W cases m c now write (waits refl)),
-                          (
-                            (λ bind waits any. binds IsSo HeardAny W cases m c bind),
-                            (
-                              (λ exchange waits any. exchanges IsSo HeardAny W cases m c now exchange),
-                              (
-                                (λ create waits any. creates IsSo HeardAny W cases m c now create (λ x es ss i. i)),
-                                (
-                                  (λ session waits any. destroys_session IsSo HeardAny W cases destroys m c session),
-                                  (
-                                    (λ device waits any. device_infos IsSo HeardAny W cases m c device),
-                                    (
-                                      (λ commit waits any. layout_commits IsSo HeardAny W cases m c commit),
-                                      (
-                                        (λ layout waits any. layout_gets IsSo HeardAny W cases m c now layout),
-                                        (
-                                          (λ layout waits any. layout_returns IsSo HeardAny W cases (returned_any (any refl)) m c layout),
-                                          (
-                                            (λ sequence waits any. stays IsSo m),
-                                            (
-                                              (λ client waits any. destroys_client IsSo HeardAny W cases m c client),
-                                              ((λ one_fs waits any. reclaims_all IsSo HeardAny W cases m c c.slot), tt),
-                                            ),
-                                          ),
-                                        ),
-                                      ),
-                                    ),
-                                  ),
-                                ),
-                              ),
-                            ),
-                          ),
-                        ),
-                      ),
-                    ),
-                  ),
-                ),
-              ),
-            ),
-          ),
-        ),
-      ) op
+  operate_keeps now m c op waits any =
+      operate_walk IsSo HeardAny W (case_parts IsSo HeardAny W cases) now m c op
+      (record {
+        waits = waits;
+        returns = λ is x file s errors. returned_any (any is) x file s (client_number (holder_of s.file.layout.phase)) s.file.layout.cred errors;
+        confirms = λ client is x es ss i. i;
+        destroys = λ is. destroys;
+      })
 
   operates_keeps : (now : ℕ) (m : MdsValue) (c : CompoundRun) (op : Value argop4) → (is_waiting_op (arm_of argop4 op) ≡ true → W c) → ((arm_of argop4 op == 51) ≡ true → (e : Entry) → E e) → KeepsOp IsSo m (operates now m c op)
   operates_keeps now m c op waits any =
@@ -496,7 +440,7 @@ module _ (W : CompoundRun → Type 0) (left : (c : CompoundRun) → W c → (c.o
 
   -- ---- an event that brings no compound
 
-  begun_same : (now : ℕ) (m : MdsValue) (from : NodeId) (v : IncomingValue) → ((xid : ℕ) (c : CompoundValue) → v ≡ IsCompound xid c → ⊥) → Becomes IsSo m (Rattle.mds_laws.proofs.Requested.behind_request now m from (request_in v))
+  begun_same : (now : ℕ) (m : MdsValue) (from : NodeId) (v : IncomingValue) → ((xid : ℕ) (c : CompoundValue) → v ≡ IsCompound xid c → ⊥) → Becomes IsSo m (Rattle.mds_walk.proofs.Requested.behind_request now m from (request_in v))
   begun_same now m from PassedOver none = λ es ss i. i
   begun_same now m from (IsReply reply) none = λ es ss i. i
   begun_same now m from (IsAnswered bytes) none = λ es ss i. i
@@ -513,7 +457,7 @@ module _ (W : CompoundRun → Type 0) (left : (c : CompoundRun) → W c → (c.o
   begin_same now (RecallsFile file) m none = λ es ss i. i
   begin_same now (Resilvers file) m none = λ es ss i. i
 
-  runs_none : (now : ℕ) (input : MdsInput) (m : MdsValue) → BringsNone input → RunsSo IsSo HeardAny W cases waiting now input m
+  runs_none : (now : ℕ) (input : MdsInput) (m : MdsValue) → BringsNone input → RunsSo IsSo now input m
   runs_none now (Hears from bytes) m none = (λ xid c is. absurd (none xid c is), λ given is es ss i. sends m es ss (Answers from given) (no_reply m.sessions (Answers from given) refl) i)
   runs_none now (IsTimedOut to which) m none = tt
   runs_none now IsTick m none = tt

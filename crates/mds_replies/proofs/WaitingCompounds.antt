@@ -3,7 +3,7 @@ use Rattle.std.proofs.Common.{◌≡◌, ℕ, zero, suc, List, [], ◌∷◌, �
 use Rattle.std.specs.Prelude.{take, drop, remove, slice_get, slice_set}
 use Rattle.cluster_model.specs.Members.{IsOneOf}
 use Rattle.mds_rule.specs.MdsStates.{CompoundRun, WaitingRead}
-use Rattle.mds_laws.proofs.Lists.{got_in}
+use Rattle.mds_walk.proofs.Lists.{got_in}
 use Rattle.mds_replies.proofs.HolderCases.{SameCompounds}
 
 -- ---- elements

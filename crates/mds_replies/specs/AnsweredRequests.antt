@@ -35,7 +35,7 @@ use Rattle.mds_receive.specs.MdsReceive.{IsCompound, incoming_of}
 use Rattle.nfs4_compound.specs.Compounds.{CompoundValue}
 use Rattle.mds_rule.specs.MdsStates.{ServedFile, Replies, MdsValue, served}
 use Rattle.mds_rule.specs.ServedFiles.{has_fresh}
-use Rattle.mds_laws.specs.MdsRuns.{MdsInput, Hears, MdsEvent, after_event}
+use Rattle.mds_walk.specs.MdsRuns.{MdsInput, Hears, MdsEvent, after_event}
 use Rattle.mds_replies.specs.ClientCalls.{IsCallIn, IsCallFrom, server_after, IsEventOf}
 use Rattle.nfs4_session.specs.Slots.{SlotState, Cached, Refuses, is_in_progress}
 use Rattle.nfs4_session.specs.Requests.{request_answer}

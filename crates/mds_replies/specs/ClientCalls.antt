@@ -9,7 +9,7 @@ use Rattle.mds_calls.specs.MdsCompounds.{mds_ops}
 use Rattle.device_addr.specs.Universal.{AddressValue}
 use Rattle.mds_receive.specs.MdsReceive.{IsCompound, incoming_of}
 use Rattle.mds_rule.specs.MdsStates.{MdsValue}
-use Rattle.mds_laws.specs.MdsRuns.{MdsInput, MdsEvent, Hears, mds_run}
+use Rattle.mds_walk.specs.MdsRuns.{MdsInput, MdsEvent, Hears, mds_run}
 
 -- ---- calls
 

@@ -12,7 +12,7 @@ use Rattle.mds_calls.specs.MdsCalls.{ExchangeId, CreateSession}
 use Rattle.mds_calls.specs.MdsReplies.{Client, Session, reply_of_ask}
 use Rattle.device_addr.specs.Universal.{AddressValue}
 use Rattle.mds_rule.specs.MdsStates.{Replies}
-use Rattle.mds_laws.specs.MdsRuns.{MdsEvent, after_event}
+use Rattle.mds_walk.specs.MdsRuns.{MdsEvent, after_event}
 use Rattle.mds_replies.specs.ClientCalls.{IsCallFrom, AreCalls, server_after, IsEventOf}
 
 -- an EXCHANGE_ID of this owner and verifier was answered in this event with this id

@@ -9,7 +9,7 @@ use Rattle.device_addr.specs.Universal.{AddressValue}
 use Rattle.mds_calls.specs.MdsCalls.{MdsCallValue, ask_of, takes_slot}
 use Rattle.mds_receive.specs.MdsReceive.{IsAnswered, incoming_of}
 use Rattle.mds_rule.specs.MdsStates.{Replies, Answers}
-use Rattle.mds_laws.specs.MdsRuns.{MdsEvent, Hears, after_event}
+use Rattle.mds_walk.specs.MdsRuns.{MdsEvent, Hears, after_event}
 use Rattle.mds_replies.specs.ClientCalls.{IsCallFrom, server_after, IsEventOf}
 use Rattle.mds_replies.specs.AnsweredRequests.{AreFitCalls}
 

@@ -10,7 +10,7 @@ use Rattle.cluster_model.specs.declared.entry.Entry.TheVariants.{Ended}
 use Rattle.cluster_model.specs.Members.{IsOneOf}
 use Rattle.device_addr.specs.Universal.{AddressValue}
 use Rattle.mds_rule.specs.MdsStates.{ServedFile, MdsValue, served, new_mds}
-use Rattle.mds_laws.specs.MdsRuns.{MdsEvent, run_from}
+use Rattle.mds_walk.specs.MdsRuns.{MdsEvent, run_from}
 use Rattle.mds_replies.specs.ClientCalls.{AreCalls, server_after}
 
 -- ---- a period

@@ -21,7 +21,7 @@ use Rattle.mds_calls.specs.FittingCalls.{reports_server}
 use Rattle.mds_calls.specs.MdsCalls.{OnSlot}
 use Rattle.mds_calls.specs.MdsCalls as slot
 use Rattle.mds_rule.specs.MdsStates.{ServedFile, served}
-use Rattle.mds_laws.specs.MdsRuns.{MdsEvent, after_event}
+use Rattle.mds_walk.specs.MdsRuns.{MdsEvent, after_event}
 use Rattle.mds_replies.specs.ClientCalls.{IsCallFrom, server_after, IsEventOf}
 use Rattle.mds_replies.specs.SlotReplies.{request_of}
 use Rattle.mds_replies.specs.LayoutReplies.{HasPeriod}

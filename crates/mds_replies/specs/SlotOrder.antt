@@ -4,7 +4,7 @@ use Rattle.std.specs.Prelude.{◌≡◌, ℕ, ◌+◌, ◌≤◌, List, ◌++◌
 use Rattle.nfs4_types.specs.declared.ids.SessionId.{SessionId}
 use Rattle.nfs4_types.specs.declared.status.Stat4.TheVariants as stat
 use Rattle.device_addr.specs.Universal.{AddressValue}
-use Rattle.mds_laws.specs.MdsRuns.{MdsEvent}
+use Rattle.mds_walk.specs.MdsRuns.{MdsEvent}
 use Rattle.mds_replies.specs.ClientCalls.{server_after, IsEventOf}
 use Rattle.mds_replies.specs.SlotReplies.{count_taken}
 use Rattle.mds_replies.specs.AnsweredRequests.{AreFitCalls, StaysRoomy, TookEffectAmong, IsRefusedWith, IsFreeAt}

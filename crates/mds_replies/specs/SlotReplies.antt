@@ -10,7 +10,7 @@ use Rattle.nfs4_session.specs.Bindings.{after_binding}
 use Rattle.mds_calls.specs.MdsCalls.{SlotCallValue, OnSlot, is_kept_reply}
 use Rattle.device_addr.specs.Universal.{AddressValue}
 use Rattle.mds_rule.specs.MdsStates.{new_mds}
-use Rattle.mds_laws.specs.MdsRuns.{MdsEvent}
+use Rattle.mds_walk.specs.MdsRuns.{MdsEvent}
 use Rattle.mds_laws.specs.SlotUses.{effects_in}
 use Rattle.mds_replies.specs.ClientCalls.{IsCallFrom, AreCalls, server_after, IsEventOf}
 

@@ -11,8 +11,8 @@ use Rattle.nfs4_session.specs.TableLaw.{TableMove, ExchangeId, CreateSession, Be
 use Rattle.nfs4_types.specs.declared.status.Stat4.{Stat4}
 use Rattle.nfs4_types.specs.declared.status.Stat4.TheVariants as stat
 use Rattle.mds_rule.specs.Compounds.{kept_in_slot}
-use Rattle.mds_laws.proofs.Keeping.{IsNoRequest}
-use Rattle.mds_replies.proofs.HolderCases.{IsPlainMove, plain_no_request}
+use Rattle.mds_laws.proofs.Keeping.{IsNoRequest, plain_no_request}
+use Rattle.mds_walk.proofs.Parts.{IsPlainMove}
 use Rattle.mds_replies.proofs.SlotTables.{TableSo, KeepsEnds, move_by}
 use Rattle.mds_reports.specs.SlotReports.{AgreesRead}
 

@@ -45,32 +45,34 @@ use Rattle.mds_receive.specs.MdsReceive.{IsCompound, incoming_of}
 use Rattle.mds_rule.specs.MdsStates.{CompoundRun, ServedFile, MdsSend, Replies, MdsValue, MdsStep, sends_none}
 use Rattle.mds_rule.specs.OpSteps.{OpStep, Goes, Ends, Waits, with_result, refuses, refused_as, stopped}
 use Rattle.mds_rule.specs.Compounds.{operate, has_session, operates, compound_bytes, kept_in_slot, sequence_result, finishes, op_then, with_ops, runs, sequenced}
-use Rattle.mds_laws.specs.MdsRuns.{MdsInput, MdsEvent, Hears, IsTimedOut, Ticks, RecallsFile, Resilvers, after_event}
-use Rattle.mds_laws.proofs.Lists.{AllOf}
-use Rattle.mds_laws.proofs.Keeping.{HeardAny, Keeps, KeepsOp, same, enters_keeps, stays}
+use Rattle.mds_walk.specs.MdsRuns.{MdsInput, MdsEvent, Hears, IsTimedOut, Ticks, RecallsFile, Resilvers, after_event}
+use Rattle.mds_walk.proofs.Lists.{AllOf}
+use Rattle.mds_walk.proofs.Parts.{HeardAny, Keeps, AllWait, is_waiting_op, Parts, TakesReturns}
+use Rattle.mds_walk.proofs.Keeping.{KeepsOp, same, enters_keeps, stays}
 use Rattle.mds_replies.specs.ClientCalls.{IsCallFrom, server_after, IsEventOf}
 use Rattle.mds_replies.specs.SlotReplies.{request_of, EffectsAreNumbered}
 use Rattle.mds_replies.specs.AnsweredRequests.{AreFitCalls, StaysRoomy, HearsFitCall}
-use Rattle.mds_replies.proofs.HolderCases.{AllWait}
 use Rattle.mds_replies.proofs.CallEvents.{Brings, ACall, Nothing, brings}
 use Rattle.mds_replies.proofs.HeldFiles.{in_behind}
 use Rattle.mds_replies.proofs.JudgedRequests.{refusal_read}
-use Rattle.mds_replies.proofs.OpsWalk.{puts_fh, gets_fh, opens, reads, writes, layout_gets, layout_returns, device_infos}
+use Rattle.mds_walk.proofs.OpsWalk.{puts_fh, gets_fh, opens, reads, writes, layout_gets, layout_returns, device_infos}
 use Rattle.mds_replies.proofs.OutCalls.{are_called}
 use Rattle.mds_replies.proofs.PeriodKept.{sent_with_calls, in_sent}
 use Rattle.mds_replies.proofs.ReplyForms.{sequence_fits}
 use Rattle.mds_replies.proofs.ReplySent.{run_of_call, event_is, of_calls}
 use Rattle.mds_replies.proofs.SameRuns.{Like, like_then, StepsLike, operates_like, operate_like}
-use Rattle.mds_replies.proofs.ServedWalk.{exchanges, creates, reclaims_all}
+use Rattle.mds_walk.proofs.ServedWalk.{exchanges, creates, reclaims_all}
 use Rattle.mds_replies.proofs.SlotTables.{TableSo, SlotJudged, NoSession, BySlot, judged, request_so}
 use Rattle.mds_replies.proofs.TakenMeans.{one_more, are_calls}
 use Rattle.mds_replies.proofs.TakenRequests.{taken_mds, taken_compound}
-use Rattle.mds_replies.proofs.Turns.{is_waiting_op}
 use Rattle.mds_reports.specs.SlotReports.{AgreesWith, CameAlone, ReportsAgree}
 use Rattle.mds_reports.proofs.SlotSteps.{IsOtherStatus, StepStays, OpStays, ops_stay}
 use Rattle.mds_reports.proofs.StandingSessions.{stands_behind}
 use Rattle.mds_reports.proofs.KeptReplies.{AgreesBytes, SlotAgrees, AnswerAgrees, IsSequenceRefusal, IsGone, IsMisordered, IsDelayed, IsUncached, plain_agrees, slot_agrees}
 use Rattle.mds_reports.proofs.ReportTurns.{bytes_agree, W, IsAgreed, IsSo, cases, sends, own_reply, finish_keeps, agreed_keeps, returned, out_keeps, BringsNone, other_keeps}
+use Rattle.mds_replies.proofs.HolderParts.{case_parts}
+use Rattle.mds_rule.specs.LayoutOps.{client_number}
+use Rattle.cluster_model.specs.Phases.{holder_of}
 
 -- ---- a SEQUENCE that is refused
 
@@ -118,32 +120,38 @@ module _ (Own : NodeId → ℕ → Type 0) where
   abbrev OpKeeps : Value argop4 → Type 0
   OpKeeps op = (now : ℕ) (m : MdsValue) (c : CompoundRun) → (is_waiting_op (arm_of argop4 op) ≡ true → W c) → KeepsOp So m (operate now m c op)
 
+  own_parts : Parts So HeardAny W
+  own_parts = case_parts So HeardAny W (cases Own)
+
+  own_returns : TakesReturns So
+  own_returns m file s errors = returned Own m file s (client_number (holder_of s.file.layout.phase)) s.file.layout.cred errors
+
   put_keeps : (file : FileId) → OpKeeps (put_fh_op file)
-  put_keeps file now m c waits = puts_fh So HeardAny W (cases Own) m c (file_handle_of file.0)
+  put_keeps file now m c waits = puts_fh So HeardAny W own_parts m c (file_handle_of file.0)
 
   devices_keep : (servers : List ℕ) → AllOf OpKeeps (map device_info_op servers)
   devices_keep [] = tt
-  devices_keep (n ∷ servers) = (λ now m c waits. device_infos So HeardAny W (cases Own) m c ((device_id_of n).0, (flex_files, (MAX_COUNT, []))), devices_keep servers)
+  devices_keep (n ∷ servers) = (λ now m c waits. device_infos So HeardAny W own_parts m c ((device_id_of n).0, (flex_files, (MAX_COUNT, []))), devices_keep servers)
 
   ops_keep : (name : List ℕ) (call : SlotCallValue) → AllOf OpKeeps (slot_ops name call)
-  ops_keep name slot.ReclaimComplete = (λ now m c waits. reclaims_all So HeardAny W (cases Own) m c c.slot, tt)
+  ops_keep name slot.ReclaimComplete = (λ now m c waits. reclaims_all So HeardAny W own_parts m c c.slot, tt)
   ops_keep name (slot.Open file) = (
     λ now m c waits. stays So m,
     (
-      λ now m c waits. opens So HeardAny W (cases Own) m c (0, (SHARE_BOTH, (0, (0, (name, (arm 1 openflag4 (arm 0 createhow4 ([], [])), inl file)))))),
-      (λ now m c waits. gets_fh So HeardAny W (cases Own) m c, tt),
+      λ now m c waits. opens So HeardAny W own_parts m c (0, (SHARE_BOTH, (0, (0, (name, (arm 1 openflag4 (arm 0 createhow4 ([], [])), inl file)))))),
+      (λ now m c waits. gets_fh So HeardAny W own_parts m c, tt),
     ),
   )
   ops_keep name (slot.LayoutGet file) = (
     put_keeps file.file,
-    (λ now m c waits. layout_gets So HeardAny W (cases Own) m c now (false, (flex_files, (reads_and_writes, (0, (whole_length, (0, (stateid4_value file.stateid, MAX_COUNT))))))), tt),
+    (λ now m c waits. layout_gets So HeardAny W own_parts m c now (false, (flex_files, (reads_and_writes, (0, (whole_length, (0, (stateid4_value file.stateid, MAX_COUNT))))))), tt),
   )
   ops_keep name (slot.DeviceInfo servers) = devices_keep servers
-  ops_keep name (slot.Write file at bytes) = (put_keeps file.file, (λ now m c waits. writes So HeardAny W (cases Own) m c now (stateid4_value file.stateid, (at, (2, bytes))) (waits refl), tt))
-  ops_keep name (slot.Read file at count) = (put_keeps file.file, (λ now m c waits. reads So HeardAny W (cases Own) m c (stateid4_value file.stateid, (at, count)) (waits refl), tt))
+  ops_keep name (slot.Write file at bytes) = (put_keeps file.file, (λ now m c waits. writes So HeardAny W own_parts m c now (stateid4_value file.stateid, (at, (2, bytes))) (waits refl), tt))
+  ops_keep name (slot.Read file at count) = (put_keeps file.file, (λ now m c waits. reads So HeardAny W own_parts m c (stateid4_value file.stateid, (at, count)) (waits refl), tt))
   ops_keep name (slot.LayoutReturn file stateid failed) = (
     put_keeps file,
-    (λ now m c waits. layout_returns So HeardAny W (cases Own) (returned Own) m c (false, (flex_files, (reads_and_writes, arm 1 layoutreturn4 (0, (whole_length, (stateid4_value stateid, return_body stateid failed)))))), tt),
+    (λ now m c waits. layout_returns So HeardAny W own_parts m c (false, (flex_files, (reads_and_writes, arm 1 layoutreturn4 (0, (whole_length, (stateid4_value stateid, return_body stateid failed)))))) own_returns, tt),
   )
   ops_keep name slot.Renew = tt
 
@@ -257,7 +265,7 @@ module _ (numbered : EffectsAreNumbered) (servers : List AddressValue) (mirrors 
       let c : CompoundRun = with_ops (new_compound node xid name (ExchangeId verifier) came) [] in
       ran_so node xid name (ExchangeId verifier) came
       (alone_step Alone e.now (server_after servers mirrors past) c (operate e.now (server_after servers mirrors past) c (exchange_id_op name verifier)) refl refl
-      (exchanges (IsSo Alone) HeardAny W (cases Alone) (server_after servers mirrors past) c e.now (verifier, (name, (0, (inl tt, []))))) (operate_like e.now (server_after servers mirrors past) c (exchange_id_op name verifier))
+      (exchanges (IsSo Alone) HeardAny W (case_parts (IsSo Alone) HeardAny W (cases Alone)) (server_after servers mirrors past) c e.now (verifier, (name, (0, (inl tt, []))))) (operate_like e.now (server_after servers mirrors past) c (exchange_id_op name verifier))
       (λ d l. mine node xid name (ExchangeId verifier) came refl c d refl refl l))
 
   create_so : (node : NodeId) (xid : ℕ) (name : List ℕ) (client sequence : ℕ) → IsCallFrom e node xid name (CreateSession client sequence) → EventSo
@@ -265,7 +273,7 @@ module _ (numbered : EffectsAreNumbered) (servers : List AddressValue) (mirrors 
       let c : CompoundRun = with_ops (new_compound node xid name (CreateSession client sequence) came) [] in
       ran_so node xid name (CreateSession client sequence) came
       (alone_step Alone e.now (server_after servers mirrors past) c (operate e.now (server_after servers mirrors past) c (create_session_op client sequence)) refl refl
-      (creates (IsSo Alone) HeardAny W (cases Alone) (server_after servers mirrors past) c e.now (client, (sequence, (WITH_BACK_CHANNEL, (fore_channel, (back_channel, (callback_program, arm 0 callback_sec4 tt ∷ [])))))) (λ x es ss j. j))
+      (creates (IsSo Alone) HeardAny W (case_parts (IsSo Alone) HeardAny W (cases Alone)) (server_after servers mirrors past) c e.now (client, (sequence, (WITH_BACK_CHANNEL, (fore_channel, (back_channel, (callback_program, arm 0 callback_sec4 tt ∷ [])))))) (λ x es ss j. j))
       (operate_like e.now (server_after servers mirrors past) c (create_session_op client sequence)) (λ d l. mine node xid name (CreateSession client sequence) came refl c d refl refl l))
 
   module _ (node : NodeId) (xid : ℕ) (name : List ℕ) (session : SessionId) (number : ℕ) (call : SlotCallValue) (came : IsCallFrom e node xid name (OnSlot session number call)) (its_id : length session.0 ≡ 16) where

@@ -39,16 +39,18 @@ use Rattle.mds_rule.specs.FileOps.{servers_of, new_served, with_new_file}
 use Rattle.mds_rule.specs.LayoutOps.{with_holder}
 use Rattle.mds_rule.specs.Compounds.{compound_bytes, kept_in_slot, sequence_result, finishes, op_then, with_ops, runs}
 use Rattle.mds_rule.specs.Goes.{calls_out}
-use Rattle.mds_laws.specs.MdsRuns.{MdsInput, MdsEvent, Hears, IsTimedOut, Ticks as IsTick, RecallsFile, Resilvers, by_input, after_event}
-use Rattle.mds_laws.specs.SlotUses.{request_in}
-use Rattle.mds_laws.proofs.Lists.{AllOf, all_push, all_set, all_got}
-use Rattle.mds_laws.proofs.Keeping.{HeardAny, Becomes, Keeps, TakesInput, hears_any, then_keeps, becomes_keeps, enters_keeps, stays}
+use Rattle.mds_walk.specs.MdsRuns.{MdsInput, MdsEvent, Hears, IsTimedOut, Ticks as IsTick, RecallsFile, Resilvers, by_input, after_event}
+use Rattle.mds_walk.specs.FirstRequests.{request_in}
+use Rattle.mds_walk.proofs.Lists.{AllOf, all_push, all_set, all_got}
+use Rattle.mds_walk.proofs.Parts.{HeardAny, Becomes, Keeps, TakesInput, AllWait}
+use Rattle.mds_walk.proofs.Keeping.{hears_any, then_keeps, becomes_keeps, enters_keeps, stays}
 use Rattle.mds_laws.proofs.Numbers.{WereSent, sent_more, sent_with, sent_kept}
-use Rattle.mds_laws.proofs.OpsWalk.{place_served}
-use Rattle.mds_laws.proofs.Requested.{behind_begin, behind_request}
-use Rattle.mds_replies.proofs.HolderCases.{AllWait, Cases, WaitCases, out_of}
+use Rattle.mds_walk.proofs.Served.{place_served}
+use Rattle.mds_walk.proofs.Requested.{behind_begin, behind_request}
+use Rattle.mds_replies.proofs.HolderCases.{Cases, WaitCases, out_of}
 use Rattle.mds_replies.proofs.WaitingCompounds.{same_wait}
-use Rattle.mds_replies.proofs.GoesWalk.{out_walk, input_walk, RunsSo}
+use Rattle.mds_replies.proofs.GoesWalk.{out_walk, input_walk}
+use Rattle.mds_walk.proofs.EventWalk.{RunsSo}
 use Rattle.mds_replies.proofs.SlotTables.{TableSo}
 use Rattle.mds_replies.proofs.Turns.{in_pushed, behind_wait}
 use Rattle.mds_reports.specs.SlotReports.{AgreesRead}
@@ -256,7 +258,7 @@ module _ (Own : NodeId → ℕ → Type 0) where
   begin_same now (RecallsFile file) m none = λ es ss i. i
   begin_same now (Resilvers file) m none = λ es ss i. i
 
-  runs_none : (now : ℕ) (input : MdsInput) (m : MdsValue) → BringsNone input → RunsSo IsSo HeardAny W cases waiting now input m
+  runs_none : (now : ℕ) (input : MdsInput) (m : MdsValue) → BringsNone input → RunsSo IsSo now input m
   runs_none now (Hears from bytes) m none = (λ xid c is. absurd (none xid c is), λ given is es ss i. sends m es ss (Answers from given) (no_reply (Answers from given) refl) i)
   runs_none now (IsTimedOut to which) m none = tt
   runs_none now IsTick m none = tt

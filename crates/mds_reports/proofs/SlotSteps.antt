@@ -53,7 +53,7 @@ use Rattle.nfs4_file_ops.specs.OpenHow.{createhow4, openflag4}
 use Rattle.mds_file_calls.specs.declared.open.TheConstants.{SHARE_BOTH}
 use Rattle.mds_file_calls.specs.declared.layouts.TheConstants.{MAX_COUNT}
 use Rattle.mds_file_calls.specs.FileOps.{whole_length, flex_files, reads_and_writes, put_fh_op, device_info_op, return_body}
-use Rattle.mds_laws.proofs.Lists.{AllOf}
+use Rattle.mds_walk.proofs.Lists.{AllOf}
 use Rattle.mds_replies.proofs.ReplyForms.{in_order}
 use Rattle.mds_replies.proofs.SameTables.{input_same}
 

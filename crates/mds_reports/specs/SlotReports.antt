@@ -10,7 +10,7 @@ use Rattle.mds_calls.specs.declared.reply.SlotReport.TheVariants.{Taken, Uncache
 use Rattle.mds_calls.specs.MdsCalls.{MdsCallValue, SlotCallValue, ask_of, ask_on_slot, takes_slot}
 use Rattle.mds_calls.specs.MdsReplies.{MdsAnswerValue, Refused, reply_of_ask}
 use Rattle.mds_rule.specs.MdsStates.{Replies}
-use Rattle.mds_laws.specs.MdsRuns.{MdsEvent, after_event}
+use Rattle.mds_walk.specs.MdsRuns.{MdsEvent, after_event}
 use Rattle.mds_replies.specs.ClientCalls.{IsCallFrom, server_after, IsEventOf}
 use Rattle.mds_replies.specs.AnsweredRequests.{AreFitCalls, StaysRoomy}
 

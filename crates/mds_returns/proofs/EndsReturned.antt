@@ -34,7 +34,7 @@ use Rattle.mds_rule.specs.Compounds.{runs, sequence_result}
 use Rattle.cluster_laws.specs.FenceLaw.{live_in}
 use Rattle.cluster_laws.proofs.Invariant.{live_of}
 use Rattle.cluster_laws.proofs.Journals.{live_append}
-use Rattle.mds_laws.specs.MdsRuns.{MdsEvent, after_event, mds_run}
+use Rattle.mds_walk.specs.MdsRuns.{MdsEvent, after_event, mds_run}
 use Rattle.mds_replies.specs.ClientCalls.{IsCallFrom, server_after, IsEventOf}
 use Rattle.mds_replies.specs.SlotReplies.{request_of, TookEffect, EffectsAreNumbered}
 use Rattle.mds_replies.specs.LayoutReplies.{HasPeriod}

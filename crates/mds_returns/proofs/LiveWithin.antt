@@ -29,7 +29,7 @@ use Rattle.cluster_laws.proofs.Invariant.{live_of}
 use Rattle.cluster_laws.proofs.Journals.{live_append}
 use Rattle.cluster_laws.proofs.Lists.{all_append}
 use Rattle.cluster_laws.proofs.Lives.{own_file, itself}
-use Rattle.mds_laws.proofs.Lists.{in_more, in_last, in_filtered}
+use Rattle.mds_walk.proofs.Lists.{in_more, in_last, in_filtered}
 use Rattle.mds_replies.proofs.Turns.{in_pushed}
 use Rattle.mds_replies.proofs.MirrorsTold.{IsOf, told, Fits, Tells, phase_tells}
 

@@ -25,14 +25,15 @@ use Rattle.mds_rule.specs.declared.waiter.Waiter.TheVariants.{ForFile, ForRead, 
 use Rattle.mds_rule.specs.ServedFiles.{has_fresh, is_period_end, file_behind, file_stepped, input_at, takes_input}
 use Rattle.mds_rule.specs.FileOps.{servers_of, new_served, with_new_file}
 use Rattle.mds_rule.specs.LayoutOps.{with_holder}
-use Rattle.mds_laws.specs.MdsRuns.{MdsEvent, mds_run}
-use Rattle.mds_laws.proofs.Keeping.{is_note, HeardAny}
+use Rattle.mds_walk.specs.MdsRuns.{MdsEvent, mds_run}
+use Rattle.mds_laws.proofs.Keeping.{is_note}
+use Rattle.mds_walk.proofs.Parts.{HeardAny, AnyCompound}
 use Rattle.mds_laws.proofs.Numbers.{WereSent, sent_more, sent_with, sent_kept}
 use Rattle.cluster_laws.specs.FenceLaw.{live_in, live_by}
 use Rattle.cluster_laws.proofs.Journals.{live_append}
 use Rattle.mds_replies.specs.ClientCalls.{server_after}
 use Rattle.mds_replies.proofs.CallsLeave.{out_layout}
-use Rattle.mds_replies.proofs.HolderCases.{Cases, RunCases, AnyCompound}
+use Rattle.mds_replies.proofs.HolderCases.{Cases, RunCases}
 use Rattle.mds_replies.proofs.GoesWalk.{in_each_run}
 use Rattle.mds_replies.proofs.PeriodKept.{at_place, is_some_number}
 use Rattle.mds_replies.proofs.MirrorsTold.{IsOf, told, Fits}

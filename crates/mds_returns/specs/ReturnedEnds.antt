@@ -19,7 +19,7 @@ use Rattle.mds_file_calls.specs.declared.layout_return.FailedMirror.{FailedMirro
 use Rattle.mds_calls.specs.FittingCalls.{reports_server, FitsRequest}
 use Rattle.mds_calls.specs.MdsCalls.{OnSlot}
 use Rattle.mds_calls.specs.MdsCalls as slot
-use Rattle.mds_laws.specs.MdsRuns.{MdsEvent, after_event, mds_run}
+use Rattle.mds_walk.specs.MdsRuns.{MdsEvent, after_event, mds_run}
 use Rattle.mds_replies.specs.ClientCalls.{IsCallFrom, server_after, IsEventOf}
 use Rattle.mds_replies.specs.LayoutReplies.{HasPeriod}
 use Rattle.mds_replies.specs.AnsweredRequests.{AreFitCalls, StaysRoomy}

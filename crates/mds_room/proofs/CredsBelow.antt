@@ -38,7 +38,7 @@ use Rattle.cluster_model.specs.Journal.{is_mirror}
 use Rattle.copy_rule.specs.declared.copy_target.CopyTarget.{CopyTarget}
 use Rattle.copy_rule.specs.declared.copy_target.CopyStep.{CopyStep}
 use Rattle.copy_rule.specs.declared.copy_target.CopyStep.TheVariants as copy_step
-use Rattle.copy_rule.specs.Copies.{CopyState, CopyCall, CopyAfter, TargetStep, with_target, with_read, with_piece, with_next, has_outcome, have_answered, swaps_of, copy_then, stranger, source_fails, read_answered, read_late, is_long, by_read, step_at, step_from, target_of, target_answered, target_late, waiting_at, target_call_at, call_from}
+use Rattle.copy_rule.specs.Copies.{CopyState, CopyCall, CopyAfter, TargetStep, with_target, with_read, with_piece, with_next, has_outcome, have_answered, may_read_on, swaps_of, copy_then, stranger, source_fails, read_answered, read_late, is_long, by_read, step_at, step_from, target_of, target_answered, target_late, waiting_at, target_call_at, call_from}
 use Rattle.copy_rule.specs.Copies as copy
 use Rattle.file_rule.specs.declared.creation.Creation.{Creation}
 use Rattle.file_rule.specs.declared.fresh.Fresh.{Fresh}
@@ -125,7 +125,7 @@ module _ (c : CopyState) where
   at_call_same xid place (Some t) = refl
 
   from_call_same : (xid : ℕ) (o : Option ℕ) → CallSame (call_from c xid o)
-  from_call_same xid None = cond_both (waits c.read && have_answered c) (Some _) None CallSame (λ is. refl) (λ off. tt)
+  from_call_same xid None = cond_both (waits c.read && may_read_on c) (Some _) None CallSame (λ is. refl) (λ off. tt)
   from_call_same xid (Some place) = at_call_same xid place (slice_get c.targets place)
 
   next_same : (xid : ℕ) → CallSame (copy.next_call c xid)

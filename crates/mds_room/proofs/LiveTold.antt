@@ -15,7 +15,7 @@ use Rattle.cluster_model.specs.Phases.{ids_of}
 use Rattle.cluster_laws.specs.FenceLaw.{is_file, swapped_in, first_free, changed_live, live_after, live_by}
 use Rattle.cluster_laws.proofs.Invariant.{live_of}
 use Rattle.cluster_laws.proofs.Lists.{all_append}
-use Rattle.mds_laws.proofs.Lists.{AllOf}
+use Rattle.mds_walk.proofs.Lists.{AllOf}
 use Rattle.mds_replies.specs.AnsweredRequests.{FitsMirrorId}
 use Rattle.mds_replies.proofs.NowUids.{is_making}
 use Rattle.mds_room.specs.Room.{IsLiveInRange}

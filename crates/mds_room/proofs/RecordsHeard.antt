@@ -12,8 +12,9 @@ use Rattle.nfs4_session.specs.Bindings.{after_binding}
 use Rattle.table_slots.specs.TableSlots.{is_of_slot, number_taken, effect_on}
 use Rattle.mds_receive.specs.MdsReceive.{incoming_of}
 use Rattle.mds_rule.specs.MdsStates.{MdsValue}
-use Rattle.mds_laws.specs.MdsRuns.{MdsInput, Hears, IsTimedOut, Ticks, RecallsFile, Resilvers, MdsEvent, after_event}
-use Rattle.mds_laws.specs.SlotUses.{request_in, effect_asked, effect_in, effects_in}
+use Rattle.mds_walk.specs.MdsRuns.{MdsInput, Hears, IsTimedOut, Ticks, RecallsFile, Resilvers, MdsEvent, after_event}
+use Rattle.mds_walk.specs.FirstRequests.{request_in}
+use Rattle.mds_laws.specs.SlotUses.{effect_asked, effect_in, effects_in}
 use Rattle.mds_room.specs.Room.{heard_with, records_heard}
 
 one_number : (request : Sequence) (a : SlotAnswer) → length (number_taken request a) ≤ 1

@@ -12,7 +12,7 @@ use Rattle.file_rule.specs.declared.fresh.Fresh.{Fresh}
 use Rattle.file_rule.specs.FilePhases.{end_of_uids}
 use Rattle.mds_rule.specs.MdsStates.{ServedFile, MdsValue, new_mds}
 use Rattle.mds_rule.specs.ServedFiles.{has_fresh}
-use Rattle.mds_laws.specs.MdsRuns.{MdsEvent, run_from, mds_run}
+use Rattle.mds_walk.specs.MdsRuns.{MdsEvent, run_from, mds_run}
 use Rattle.mds_replies.specs.ClientCalls.{server_after}
 use Rattle.mds_replies.specs.SlotReplies.{count_taken}
 use Rattle.mds_replies.specs.AnsweredRequests.{FitsMirrorId, HasSpareNumbers}

@@ -21,12 +21,12 @@ use Rattle.mds_rule.specs.declared.waiter.Waiter.TheVariants.{ForFile, ForRead, 
 use Rattle.mds_rule.specs.ServedFiles.{has_fresh, is_period_end, file_behind, file_stepped, input_at, takes_input}
 use Rattle.mds_rule.specs.FileOps.{max_files, uids_left, servers_of, new_served, with_new_file, may_make}
 use Rattle.mds_rule.specs.LayoutOps.{with_holder}
-use Rattle.mds_laws.specs.MdsRuns.{MdsEvent, run_from, mds_run}
-use Rattle.mds_laws.proofs.Lists.{AllOf, all_push, all_set}
-use Rattle.mds_laws.proofs.Keeping.{HeardAny}
+use Rattle.mds_walk.specs.MdsRuns.{MdsEvent, run_from, mds_run}
+use Rattle.mds_walk.proofs.Lists.{AllOf, all_push, all_set}
+use Rattle.mds_walk.proofs.Parts.{HeardAny, AnyCompound}
 use Rattle.mds_laws.proofs.Numbers.{WereSent, sent_more, sent_with, sent_kept}
 use Rattle.mds_replies.proofs.HoldersHold.{at_file}
-use Rattle.mds_replies.proofs.HolderCases.{Cases, RunCases, AnyCompound}
+use Rattle.mds_replies.proofs.HolderCases.{Cases, RunCases}
 use Rattle.mds_replies.proofs.GoesWalk.{run_walk}
 use Rattle.mds_room.proofs.CredsBelow.{FileBelow, phase_below, out_below, below_up}
 use Rattle.mds_room.proofs.ServersIn.{FileIn, phase_in, out_in, nth_in, creations_in}

@@ -40,14 +40,14 @@ use Rattle.copy_rule.specs.declared.copy_target.CopyTarget.{CopyTarget}
 use Rattle.copy_rule.specs.declared.copy_target.CopyStep.{CopyStep}
 use Rattle.copy_rule.specs.declared.copy_target.CopyStep.TheVariants as copy_step
 use Rattle.copy_rule.specs.declared.copy_target.Target.{Target}
-use Rattle.copy_rule.specs.Copies.{CopyState, CopyCall, CopyAfter, TargetStep, is_given_up, to_make, at_stage, goes_on_with, target_fails, seen_then, create_answered, write_answered, stage_for, to_write, with_target, with_read, with_piece, with_next, has_outcome, have_answered, swap_of, swaps_of, copy_then, stranger, source_fails, read_answered, read_late, is_long, by_read, step_at, step_from, target_of, target_answered, target_late, waiting_at, target_call_at, call_from}
+use Rattle.copy_rule.specs.Copies.{CopyState, CopyCall, CopyAfter, TargetStep, is_given_up, to_make, at_stage, goes_on_with, target_fails, seen_then, create_answered, write_answered, stage_for, to_write, with_target, with_read, with_piece, with_next, has_outcome, have_answered, may_read_on, swap_of, swaps_of, copy_then, stranger, source_fails, read_answered, read_late, is_long, by_read, step_at, step_from, target_of, target_answered, target_late, waiting_at, target_call_at, call_from}
 use Rattle.copy_rule.specs.Copies as copy
 use Rattle.file_rule.specs.declared.creation.Creation.{Creation}
 use Rattle.file_rule.specs.declared.fresh.Fresh.{Fresh}
 use Rattle.file_rule.specs.MdsFiles.{Creations, Activity, Idle, Makes, Fences, Settles, Copies, MdsFile, FileStep, nothing, stays, a_uid, goes_idle, goes_fencing, begun_by, goes_on, with_entries, fenced_on, fence_stepped, shown_by_set, seen_by, mirror_at, in_stage, with_creation, creation_of, creation_answered, creation_timed_out, all_made, making_on, making_at, making_by, servers_without, replacing, adding, plan_of, copying, settled, source_left, shown_by_commit, seen_at_source, settling_answered, settling_timed_out, copied_by, copied_on, target_left, copy_stepped}
 use Rattle.file_rule.specs.FilePhases.{FileInput, AsksLayout, OwnWrite, Recall, Returns, Revokes, OwnEnds, Resilver, Answers, TimesOut, Ticks, Sees, are_spent, asked_in, held_in, by_client, by_mds, recalled_row, returned_row, revoked_row, own_row, resilvered_in, kind_of, settles_by, answered_in, timed_out_in, ticked, phase, CallOut, creations_at, creation_waiting, create_out_at, create_out, fence_out, settle_out, copy_out, call_out_of, call_out}
 use Rattle.mds_rule.specs.FileOps.{nth_server}
-use Rattle.mds_laws.proofs.Lists.{AllOf, all_set, all_got}
+use Rattle.mds_walk.proofs.Lists.{AllOf, all_set, all_got}
 
 -- ---- lists
 
@@ -315,7 +315,7 @@ module _ (n : ℕ) where
         all_set TargetIn c.targets place (at_stage t (Out xid 0)) i (its.0, its.1)
 
     call_from_in : (xid : ℕ) (o : Option ℕ) → CallIn (call_from c xid o)
-    call_from_in xid None = cond_both (waits c.read && have_answered c) (Some _) None CallIn (λ is. i) (λ off. tt)
+    call_from_in xid None = cond_both (waits c.read && may_read_on c) (Some _) None CallIn (λ is. i) (λ off. tt)
     call_from_in xid (Some place) = call_at_in xid place (slice_get c.targets place) refl
 
     next_in : (xid : ℕ) → CallIn (copy.next_call c xid)

@@ -16,10 +16,10 @@ use Rattle.mds_rule.specs.Answers.{own_answer, failures_by_place}
 use Rattle.mds_rule.specs.MdsStates.{ServedFile, MdsSend, CallsServer, CallsBack, Replies, Answers, AwaitedCall, MdsValue, MdsStep, sends_none, served, with_served, with_call, new_mds}
 use Rattle.mds_rule.specs.declared.waiter.Waiter.TheVariants.{ForFile, ForRead, ForWrite, ForRecall}
 use Rattle.mds_rule.specs.ServedFiles.{has_fresh, is_period_end, file_behind, file_stepped, input_at}
-use Rattle.mds_laws.specs.MdsRuns.{MdsEvent, mds_run}
-use Rattle.mds_laws.proofs.Keeping.{HeardAny}
+use Rattle.mds_walk.specs.MdsRuns.{MdsEvent, mds_run}
+use Rattle.mds_walk.proofs.Parts.{HeardAny, AnyCompound}
 use Rattle.mds_laws.proofs.Numbers.{WereSent, sent_more, sent_with, sent_kept}
-use Rattle.mds_replies.proofs.HolderCases.{Cases, RunCases, AnyCompound}
+use Rattle.mds_replies.proofs.HolderCases.{Cases, RunCases}
 use Rattle.mds_replies.proofs.GoesWalk.{run_walk}
 
 module _ (servers : List AddressValue) (mirrors : ℕ) where

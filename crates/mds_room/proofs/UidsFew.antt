@@ -26,12 +26,12 @@ use Rattle.mds_rule.specs.declared.waiter.Waiter.TheVariants.{ForFile, ForRead, 
 use Rattle.mds_rule.specs.ServedFiles.{has_fresh, is_period_end, file_behind, file_stepped, input_at, takes_input}
 use Rattle.mds_rule.specs.FileOps.{nth_server, servers_of, new_served, with_new_file, may_make}
 use Rattle.mds_rule.specs.LayoutOps.{with_holder}
-use Rattle.mds_laws.specs.MdsRuns.{MdsEvent, mds_run}
-use Rattle.mds_laws.proofs.Lists.{AllOf, all_push, all_set}
-use Rattle.mds_laws.proofs.Keeping.{HeardAny}
+use Rattle.mds_walk.specs.MdsRuns.{MdsEvent, mds_run}
+use Rattle.mds_walk.proofs.Lists.{AllOf, all_push, all_set}
+use Rattle.mds_walk.proofs.Parts.{HeardAny, AnyCompound}
 use Rattle.mds_laws.proofs.Numbers.{WereSent, sent_more, sent_with, sent_kept}
 use Rattle.mds_replies.proofs.HoldersHold.{at_file}
-use Rattle.mds_replies.proofs.HolderCases.{Cases, RunCases, AnyCompound}
+use Rattle.mds_replies.proofs.HolderCases.{Cases, RunCases}
 use Rattle.mds_replies.proofs.GoesWalk.{run_walk}
 use Rattle.mds_replies.proofs.PeriodKept.{at_place}
 use Rattle.mds_room.specs.Room.{RunsHaveRoom, ShortRunsHaveRoom}

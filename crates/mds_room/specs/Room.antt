@@ -7,7 +7,7 @@ use Rattle.cluster_model.specs.declared.entry.Entry.{Entry}
 use Rattle.cluster_model.specs.declared.entry.Entry.TheVariants.{Free, Swapped}
 use Rattle.device_addr.specs.Universal.{AddressValue}
 use Rattle.mds_rule.specs.ServedFiles.{has_fresh}
-use Rattle.mds_laws.specs.MdsRuns.{MdsInput, Hears, MdsEvent, mds_run}
+use Rattle.mds_walk.specs.MdsRuns.{MdsInput, Hears, MdsEvent, mds_run}
 use Rattle.mds_replies.specs.ClientCalls.{server_after}
 use Rattle.mds_replies.specs.AnsweredRequests.{StaysRoomy}
 

@@ -1,5 +1,5 @@
 -- The operations on layouts and devices (RFC 8881, sections 18.40 and 18.42 to 18.44; RFC 8435, sections 4, 5 and 9).
-use Rattle.std.specs.Prelude.{ℕ, ◌+◌, ◌-◌, Bool, true, false, not, ◌==◌, List, [], ◌∷◌, length, bytes_eq, Option, Some, None, is_some, Result, Ok, Err, if◌then◌else◌}
+use Rattle.std.specs.Prelude.{ℕ, ◌+◌, Bool, true, false, ◌==◌, List, [], ◌∷◌, length, bytes_eq, Option, Some, None, is_some, Result, Ok, Err, if◌then◌else◌}
 use Rattle.std.proofs.Common.{inl, inr}
 use Rattle.ff_xdr.specs.Form.{Value}
 use Rattle.ff_xdr.specs.Arms.{arm, by_arm}

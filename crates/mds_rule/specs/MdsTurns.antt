@@ -36,10 +36,10 @@ pub record MdsShown : Type 0 where
   pub sends : List MdsSend
 
 abbrev pub compound_with : List (Value argop4) → CompoundValue
-compound_with ops = record { tag = []; minorversion = 1; count = length ops; ops = record { values = ops; stop = stop.End None } }
+compound_with ops = record { tag = []; minorversion = 1; count = length ops; ops = record { values = ops; stop = stop.End None }; stop = stop.End None }
 
 abbrev pub compound_up_to : List (Value argop4) → ℕ → CompoundValue
-compound_up_to ops number = record { tag = []; minorversion = 1; count = length ops + 1; ops = record { values = ops; stop = stop.Unread number } }
+compound_up_to ops number = record { tag = []; minorversion = 1; count = length ops + 1; ops = record { values = ops; stop = stop.Unread number }; stop = stop.Unread number }
 
 abbrev pub after_turn : ℕ → MdsValue → MdsTurn → MdsStep
 after_turn now m (Runs node xid ops) = takes_compound now m node xid (compound_with ops)

@@ -1,5 +1,5 @@
 -- What one operation of a compound comes to (RFC 8881, section 16.2.3), and its result.
-use Rattle.std.specs.Prelude.{ℕ, ◌+◌, ◌-◌, Bool, true, false, ◌==◌, ◌&&◌, List, [], ◌∷◌, ◌++◌, nat_le, Option, Some, None, if◌then◌else◌}
+use Rattle.std.specs.Prelude.{ℕ, ◌+◌, Bool, true, false, ◌==◌, ◌&&◌, List, [], ◌∷◌, ◌++◌, nat_le, Option, Some, None, if◌then◌else◌}
 use Rattle.std.proofs.Common.{inr}
 use Rattle.ff_xdr.specs.Form.{Value}
 use Rattle.ff_xdr.specs.Arms.{arm}
@@ -9,8 +9,9 @@ use Rattle.nfs4_types.specs.declared.status.Stat4.TheVariants as stat
 use Rattle.nfs4_types.specs.Status.{stat4_number}
 use Rattle.nfs4_compound.specs.declared.stop.Stop.{Stop}
 use Rattle.nfs4_compound.specs.declared.stop.Stop.TheVariants as stop
-use Rattle.nfs4_compound.specs.Behind.{behind_arms}
-use Rattle.nfs4_compound.specs.Results.{resop4}
+use Rattle.nfs4_unserved_ops.specs.Results.{unserved_resop4, unserved_refused}
+use Rattle.nfs4_compound.specs.Joined.{behind}
+use Rattle.nfs4_compound.specs.Results.{served_resop4, resop4}
 use Rattle.mds_operations.specs.declared.object.Object.{Object}
 use Rattle.mds_operations.specs.Orders.{Order, refusal}
 use Rattle.mds_rule.specs.MdsStates.{CompoundRun, MdsValue}
@@ -46,7 +47,7 @@ refused_as number status =
     else if number == 53 then arm 53 resop4 (inr (stat4_number status))
     else if number == 57 then arm 57 resop4 (inr (stat4_number status))
     else if number == 58 then arm 58 resop4 (inr (stat4_number status))
-    else behind_arms resop4 (number, stat4_number status)
+    else behind served_resop4 unserved_resop4 tt (unserved_refused number status)
 
 -- ---- an operation that was run
 

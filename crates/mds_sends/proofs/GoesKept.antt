@@ -1,5 +1,5 @@
 -- What files have kept, one file after the other.
-use Rattle.std.proofs.Common.{◌≡◌, ℕ, zero, suc, ◌+◌, ◌-◌, ◌<◌, ◌≤◌, Bool, true, false, cond, ◌==◌, List, [], ◌∷◌, ◌++◌, length, map, drop, Option, Some, None, refl, sym, ap, subst, ◌∙◌, arith}
+use Rattle.std.proofs.Common.{◌≡◌, ℕ, zero, suc, ◌+◌, ◌-◌, ◌<◌, ◌≤◌, Bool, true, false, cond, ◌==◌, List, [], ◌∷◌, ◌++◌, length, map, drop, Option, Some, None, refl, sym, ap, ◌∙◌, arith}
 use Rattle.std.specs.Prelude.{slice_get}
 use Rattle.std.proofs.lemmas.Bool.{ne_eqb, eqb-true}
 use Rattle.std.proofs.lemmas.Bool.Decides.{nat_tests}
@@ -10,7 +10,7 @@ use Rattle.mds_rule.specs.Events.{kept_call_of}
 use Rattle.mds_rule.specs.MdsStates.{ServedFile, MdsValue, served_in, numbered}
 use Rattle.mds_rule.specs.Goes.{repeats}
 use Rattle.served_files.specs.Quiet.{AreStill}
-use Rattle.mds_sends.specs.declared.kept.KeptCall.{KeptCall}
+use Rattle.mds_sends.specs.declared.kept.NumberedCall.{NumberedCall}
 use Rattle.mds_sends.specs.Kept.{kept_as, numbered_kept, kept_call, kept_in, FirstKept, first_number, kept_for, rest_behind}
 
 -- ---- one list, from a place on
@@ -67,7 +67,7 @@ still_none files from end i still behind before = kept_at files i ∙ by_file (s
     by_file (Some s) is = ap kept_call_of is ∙ (still (numbered (i + 1)) s behind before (file_at files i ∙ is)).kept
 
 -- what is left from a number on
-abbrev pub left_from : List ServedFile → ℕ → List KeptCall
+abbrev pub left_from : List ServedFile → ℕ → List NumberedCall
 left_from files from = numbered_kept from (drop (from - 1) (kept_of files))
 
 -- up to the next file that a tick may change, and what it has kept
@@ -80,7 +80,7 @@ left_at files from file some behind still =
     ∙ same_from list (from + (n - from)) n (from - 1 + (n - from)) (n - 1) (omega (arith, behind)) (omega (arith, some, behind))
     ∙ one_on n list (n - 1)
     ∙ ap (λ (o : Option (ℕ × ℕ)). kept_as n o ++ numbered_kept (suc n) (drop (suc (n - 1)) list)) (kept_at files (n - 1) ∙ ap kept_call_of (sym here))
-    ∙ ap (λ (l : List KeptCall). kept_as n (kept_call_of (served_in files file)) ++ l) (same_from list (suc n) (n + 1) (suc (n - 1)) (n + 1 - 1) (omega arith) (omega (arith, some, behind)))
+    ∙ ap (λ (l : List NumberedCall). kept_as n (kept_call_of (served_in files file)) ++ l) (same_from list (suc n) (n + 1) (suc (n - 1)) (n + 1 - 1) (omega arith) (omega (arith, some, behind)))
   where
     numbered_again : (f : FileId) → 1 ≤ f.0 → f ≡ numbered (f.0 - 1 + 1)
     numbered_again f past = let same : f.0 ≡ f.0 - 1 + 1 = omega (arith, past) in ap numbered same
@@ -102,16 +102,16 @@ left_none files from some still = all_none from (kept_of files) (from - 1) (λ k
 
 -- ---- what is sent of them, one after the other
 
-abbrev first_or : KeptCall → List KeptCall → KeptCall
+abbrev first_or : NumberedCall → List NumberedCall → NumberedCall
 first_or other [] = other
 first_or other (call ∷ rest) = call
 
-abbrev behind_first : List KeptCall → List KeptCall
+abbrev behind_first : List NumberedCall → List NumberedCall
 behind_first [] = []
 behind_first (call ∷ rest) = rest
 
 -- the first of them stands so many places on, and those before it have kept none
-record IsFirst (n : ℕ) (list : KeptList) (call : KeptCall) (rest : List KeptCall) : Type 0 where
+record IsFirst (n : ℕ) (list : KeptList) (call : NumberedCall) (rest : List NumberedCall) : Type 0 where
   at : ℕ
   number : call.number ≡ n + at
   none : (i : ℕ) → i < at → kept_in list i ≡ None
@@ -122,19 +122,19 @@ none_more : (list : KeptList) (at : ℕ) → ((i : ℕ) → i < at → kept_in l
 none_more list at none zero before = refl
 none_more list at none (suc i) before = none i (omega (arith, before))
 
-is_first : (n : ℕ) (list : KeptList) (call : KeptCall) (rest : List KeptCall) → numbered_kept n list ≡ call ∷ rest → IsFirst n list call rest
+is_first : (n : ℕ) (list : KeptList) (call : NumberedCall) (rest : List NumberedCall) → numbered_kept n list ≡ call ∷ rest → IsFirst n list call rest
 is_first n [] call rest is = absurd (cc)
 is_first n (None ∷ list) call rest is =
     let f = is_first (suc n) list call rest is in
     record { at = suc f.at; number = omega (arith, f.number); none = none_more list f.at f.none; here = f.here; others = f.others }
 is_first n (Some k ∷ list) call rest is =
     let same = ap (first_or call) is in
-    let number = ap (λ (c : KeptCall). c.number) same in
+    let number = ap (λ (c : NumberedCall). c.number) same in
     record {
       at = 0;
       number = omega (arith, number);
       none = λ i before. absurd (omega (arith, before));
-      here = ap (λ (c : KeptCall). Some (c.server, c.xid)) same;
+      here = ap (λ (c : NumberedCall). Some (c.server, c.xid)) same;
       others = sym (ap behind_first is) ∙ ap (λ (x : ℕ). numbered_kept (suc x) list) number;
     }
 
@@ -159,7 +159,7 @@ drop_drop [] (suc i) j = drop_nil j ∙ sym (drop_nil (suc i + j))
 drop_drop (x ∷ list) (suc i) j = let same : suc (i + j) ≡ suc i + j = omega arith in drop_drop list i j ∙ ap (λ (k : ℕ). drop k (x ∷ list)) same
 
 -- what is left of them from a number on
-abbrev pub IsLeft : KeptList → ℕ → List KeptCall → Type 0
+abbrev pub IsLeft : KeptList → ℕ → List NumberedCall → Type 0
 IsLeft list from rest = rest ≡ numbered_kept from (drop (from - 1) list)
 
 none_behind : (list : KeptList) (from : ℕ) → 1 ≤ from → IsLeft list from [] → (place : ℕ) → from ≤ suc place → kept_in list place ≡ None
@@ -167,19 +167,19 @@ none_behind list from some left place behind =
     let at : from - 1 + (place - (from - 1)) ≡ place = omega (arith, some, behind) in
     ap (kept_in list) (sym at) ∙ sym (kept_drop list (from - 1) (place - (from - 1))) ∙ is_none from (drop (from - 1) list) (sym left) (place - (from - 1))
 
-none_before : (list : KeptList) (from : ℕ) (call : KeptCall) (rest : List KeptCall) → 1 ≤ from → IsLeft list from (call ∷ rest) → (place : ℕ) → from ≤ suc place → suc place < call.number → kept_in list place ≡ None
+none_before : (list : KeptList) (from : ℕ) (call : NumberedCall) (rest : List NumberedCall) → 1 ≤ from → IsLeft list from (call ∷ rest) → (place : ℕ) → from ≤ suc place → suc place < call.number → kept_in list place ≡ None
 none_before list from call rest some left place behind before =
     let f = is_first from (drop (from - 1) list) call rest (sym left) in
     let at : from - 1 + (place - (from - 1)) ≡ place = omega (arith, some, behind) in
     ap (kept_in list) (sym at) ∙ sym (kept_drop list (from - 1) (place - (from - 1))) ∙ f.none (place - (from - 1)) (omega (arith, f.number, behind, before, some))
 
-pub first_kept : (list : KeptList) (from : ℕ) (rest : List KeptCall) → 1 ≤ from → IsLeft list from rest → FirstKept list from (first_number rest)
+pub first_kept : (list : KeptList) (from : ℕ) (rest : List NumberedCall) → 1 ≤ from → IsLeft list from rest → FirstKept list from (first_number rest)
 first_kept list from [] some left = λ end place behind before. none_behind list from some left place behind
 first_kept list from (call ∷ rest) some left =
     let f = is_first from (drop (from - 1) list) call rest (sym left) in
     (omega (arith, f.number), none_before list from call rest some left)
 
-pub kept_after : (list : KeptList) (from : ℕ) (rest : List KeptCall) → 1 ≤ from → IsLeft list from rest → (k : ℕ) → first_number rest ≡ Some k → from ≤ k
+pub kept_after : (list : KeptList) (from : ℕ) (rest : List NumberedCall) → 1 ≤ from → IsLeft list from rest → (k : ℕ) → first_number rest ≡ Some k → from ≤ k
 kept_after list from [] some left k is = absurd (none-some k is)
 kept_after list from (call ∷ rest) some left k is =
     let f = is_first from (drop (from - 1) list) call rest (sym left) in
@@ -193,7 +193,7 @@ below_other : (a n from k : ℕ) → (a == n) ≡ false → n ≤ a → 1 ≤ fr
 below_other a n from k other most some behind before = let less = less_than a n from other most some behind in omega (arith, less, before, some, behind)
 
 -- what the file with this number has kept, and what is left behind it
-pub kept_here : (list : KeptList) (from n : ℕ) (rest : List KeptCall) → 1 ≤ from → IsLeft list from rest → from ≤ n → ((k : ℕ) → first_number rest ≡ Some k → n ≤ k) → kept_in list (n - 1) ≡ kept_for n rest
+pub kept_here : (list : KeptList) (from n : ℕ) (rest : List NumberedCall) → 1 ≤ from → IsLeft list from rest → from ≤ n → ((k : ℕ) → first_number rest ≡ Some k → n ≤ k) → kept_in list (n - 1) ≡ kept_for n rest
 kept_here list from n [] some left behind least = none_behind list from some left (n - 1) (omega (arith, behind))
 kept_here list from n (call ∷ rest) some left behind least = by_test (call.number == n) refl (least call.number refl)
   where
@@ -205,7 +205,7 @@ kept_here list from n (call ∷ rest) some left behind least = by_test (call.num
         ap (kept_in list) (sym at) ∙ sym (kept_drop list (from - 1) f.at) ∙ f.here
     by_test false is most = none_before list from call rest some left (n - 1) (omega (arith, behind)) (less_than call.number n from is most some behind)
 
-pub left_behind : (list : KeptList) (from n : ℕ) (rest : List KeptCall) → 1 ≤ from → IsLeft list from rest → from ≤ n → ((k : ℕ) → first_number rest ≡ Some k → n ≤ k) → IsLeft list (n + 1) (rest_behind n rest)
+pub left_behind : (list : KeptList) (from n : ℕ) (rest : List NumberedCall) → 1 ≤ from → IsLeft list from rest → from ≤ n → ((k : ℕ) → first_number rest ≡ Some k → n ≤ k) → IsLeft list (n + 1) (rest_behind n rest)
 left_behind list from n [] some left behind least = sym (all_none (n + 1) list (n + 1 - 1) (λ k after. none_behind list from some left k (omega (arith, after, behind))))
 left_behind list from n (call ∷ rest) some left behind least = by_test (call.number == n) refl (least call.number refl)
   where

@@ -1,13 +1,13 @@
 -- The calls that files have kept until a tick, told by the files that have.
 use Rattle.std.specs.Prelude.{◌≡◌, ℕ, suc, ◌≤◌, ◌<◌, ◌==◌, if◌then◌else◌, List, [], ◌∷◌, ◌++◌, Option, Some, None, slice_get}
-use Rattle.mds_sends.specs.declared.kept.KeptCall.{KeptCall}
+use Rattle.mds_sends.specs.declared.kept.NumberedCall.{NumberedCall}
 
-abbrev pub kept_as : ℕ → Option (ℕ × ℕ) → List KeptCall
+abbrev pub kept_as : ℕ → Option (ℕ × ℕ) → List NumberedCall
 kept_as n None = []
 kept_as n (Some call) = record { number = n; server = call.0; xid = call.1 } ∷ []
 
 -- of each file from this number on, what it has kept, if it has
-abbrev pub numbered_kept : ℕ → List (Option (ℕ × ℕ)) → List KeptCall
+abbrev pub numbered_kept : ℕ → List (Option (ℕ × ℕ)) → List NumberedCall
 numbered_kept n [] = []
 numbered_kept n (kept ∷ list) = kept_as n kept ++ numbered_kept (suc n) list
 
@@ -34,14 +34,14 @@ IsAtMost from found other = (n k : ℕ) → found ≡ Some n → other ≡ Some 
 
 -- ---- of calls that are left: the number of the file of the first, the call of one file, if it is the first, and what is left behind it
 
-abbrev pub first_number : List KeptCall → Option ℕ
+abbrev pub first_number : List NumberedCall → Option ℕ
 first_number [] = None
 first_number (call ∷ rest) = Some call.number
 
-abbrev pub kept_for : ℕ → List KeptCall → Option (ℕ × ℕ)
+abbrev pub kept_for : ℕ → List NumberedCall → Option (ℕ × ℕ)
 kept_for n [] = None
 kept_for n (call ∷ rest) = if call.number == n then Some (call.server, call.xid) else None
 
-abbrev pub rest_behind : ℕ → List KeptCall → List KeptCall
+abbrev pub rest_behind : ℕ → List NumberedCall → List NumberedCall
 rest_behind n [] = []
 rest_behind n (call ∷ rest) = if call.number == n then rest else call ∷ rest

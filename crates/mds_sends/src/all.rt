@@ -5,7 +5,7 @@ ghost use Rattle.mds_rule.specs.Goes.{each, repeats, place_calls, file_calls, ca
 ghost use Rattle.compound_run.specs.CompoundRuns.{HasMadeStep};
 ghost use Rattle.mds_sends.specs.Kept.{kept_in, first_number, kept_for, rest_behind, numbered_kept};
 
-use crate::kept::KeptCall;
+use crate::kept::NumberedCall;
 use crate::next::next_file;
 use crate::own::call_own;
 use crate::reads::call_reads;
@@ -72,7 +72,7 @@ fn call_file(
 }
 
 /// The number of the file that has kept the first of these.
-fn first_number(rest: &[KeptCall]) -> Option<u32>
+fn first_number(rest: &[NumberedCall]) -> Option<u32>
     ensures { result ≡ first_number rest.now }
 {
     let (call, _) = rest.split_first()?;
@@ -80,7 +80,7 @@ fn first_number(rest: &[KeptCall]) -> Option<u32>
 }
 
 /// The call that the file with this number has kept, if it is the first of these.
-fn kept_for(rest: &[KeptCall], number: u32) -> Option<(u32, u32)>
+fn kept_for(rest: &[NumberedCall], number: u32) -> Option<(u32, u32)>
     ensures { result ≡ kept_for number rest.now }
 {
     let (call, _) = rest.split_first()?;
@@ -91,7 +91,7 @@ fn kept_for(rest: &[KeptCall], number: u32) -> Option<(u32, u32)>
 }
 
 /// What is left of these behind the file with this number.
-fn rest_behind(rest: &[KeptCall], number: u32) -> &[KeptCall]
+fn rest_behind(rest: &[NumberedCall], number: u32) -> &[NumberedCall]
     ensures { result.now ≡ rest_behind number rest.now }
 {
     let Some((call, others)) = rest.split_first() else {
@@ -105,7 +105,7 @@ fn rest_behind(rest: &[KeptCall], number: u32) -> &[KeptCall]
 
 /// All calls that wait go out, and what files have kept until a tick. Only the files are visited that are due, whose recall is next, or
 /// that have kept a call. Takes memory.
-pub fn call_all(state: &mut State, kept: &[KeptCall], out: &mut Outbox) -> Result<(), NoMemory>
+pub fn call_all(state: &mut State, kept: &[NumberedCall], out: &mut Outbox) -> Result<(), NoMemory>
     ensures { (list : List (Option (ℕ × ℕ))) → kept.now ≡ numbered_kept 1 list → OnOk result (HasMadeStep (calls_out list state.old) out.old state.new out.new) }
 {
     let end = state.files.len() + 1;

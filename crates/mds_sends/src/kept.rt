@@ -1,7 +1,6 @@
 //! What files have kept until a tick.
 
-ghost use Rattle.std.specs.Prelude.{◌≡◌, ◌++◌, ◌==◌, map, option_copied, IfOk, OnOk};
-ghost use Rattle.mds_activity.specs.FileCalls.{kept_out};
+ghost use Rattle.std.specs.Prelude.{◌≡◌, ◌++◌, IfOk, OnOk};
 ghost use Rattle.mds_rule.specs.MdsStates.{served};
 ghost use Rattle.mds_rule.specs.Events.{kept_calls, kept_call_of};
 ghost use Rattle.mds_sends.specs.Kept.{kept_as, numbered_kept};
@@ -12,14 +11,14 @@ use mds_state::State;
 
 /// A call that a file kept until the tick: the file's number, and the server and the number of the call.
 #[derive(Clone, Copy, Debug, PartialEq, Eq)]
-pub struct KeptCall {
+pub struct NumberedCall {
     pub number: u32,
     pub server: u32,
     pub xid: u32,
 }
 
 /// What this file has kept goes behind what others have. Takes memory.
-fn note_kept(state: &State, file: FileId, kept: &mut Vec<KeptCall>) -> Result<(), NoMemory>
+fn note_kept(state: &State, file: FileId, kept: &mut Vec<NumberedCall>) -> Result<(), NoMemory>
     ensures { OnOk result (kept.new.items ≡ kept.old.items ++ kept_as file.0 (kept_call_of (served state.now file))) }
 {
     let Some(served) = state.files.get(file) else {
@@ -29,7 +28,7 @@ fn note_kept(state: &State, file: FileId, kept: &mut Vec<KeptCall>) -> Result<()
         return Ok(());
     };
     let number = file.0;
-    kept.push(KeptCall {
+    kept.push(NumberedCall {
         number,
         server,
         xid,
@@ -38,7 +37,7 @@ fn note_kept(state: &State, file: FileId, kept: &mut Vec<KeptCall>) -> Result<()
 }
 
 /// What files have kept, in their order. It costs by the files that a tick may change. Takes memory.
-pub fn kept_calls(state: &State) -> Result<Vec<KeptCall>, NoMemory>
+pub fn kept_calls(state: &State) -> Result<Vec<NumberedCall>, NoMemory>
     ensures { IfOk result (λ kept. kept.items ≡ numbered_kept 1 (kept_calls state.now)) }
 {
     let mut kept = Vec::new(state.alloc);

@@ -11,4 +11,4 @@ mod recalls;
 mod send;
 
 pub use all::{call_all, call_due};
-pub use kept::{KeptCall, kept_calls};
+pub use kept::{NumberedCall, kept_calls};

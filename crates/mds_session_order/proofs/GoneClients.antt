@@ -19,8 +19,8 @@ use Rattle.nfs4_session.specs.TableLaw.{TableMove, CreateSession as Creates, Bin
 use Rattle.mds_session_calls.specs.SessionOps as asked
 use Rattle.mds_calls.specs.MdsCalls.{SlotCallValue}
 use Rattle.mds_rule.specs.MdsStates.{MdsValue, new_mds}
-use Rattle.mds_laws.specs.MdsRuns.{MdsEvent, after_event}
-use Rattle.mds_laws.proofs.Lists.{found_in, found_passes}
+use Rattle.mds_walk.specs.MdsRuns.{MdsEvent, after_event}
+use Rattle.mds_walk.proofs.Lists.{found_in, found_passes}
 use Rattle.mds_replies.specs.ClientCalls.{HearsCall, AreCalls, server_after, IsEventOf}
 use Rattle.mds_replies.specs.ClientIds.{GivesSession}
 use Rattle.mds_replies.specs.SlotReplies.{request_of}

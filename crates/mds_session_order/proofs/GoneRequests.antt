@@ -10,7 +10,7 @@ use Rattle.nfs4_session.specs.Bindings.{after_binding}
 use Rattle.nfs4_session.specs.TableLaw.{Bind, KeepsTable}
 use Rattle.mds_calls.specs.MdsCalls.{SlotCallValue}
 use Rattle.mds_rule.specs.MdsStates.{MdsValue, new_mds}
-use Rattle.mds_laws.proofs.Lists.{found_in, found_passes}
+use Rattle.mds_walk.proofs.Lists.{found_in, found_passes}
 use Rattle.mds_replies.specs.ClientCalls.{server_after}
 use Rattle.mds_replies.specs.SlotReplies.{request_of}
 use Rattle.mds_replies.proofs.Periods.{run_behind}

@@ -16,7 +16,7 @@ use Rattle.table_slots.specs.TableSlots.{is_of_session}
 use Rattle.mds_session_calls.specs.SessionOps as asked
 use Rattle.mds_rule.specs.MdsStates.{MdsValue, new_mds}
 use Rattle.mds_rule.specs.Goes.{calls_out}
-use Rattle.mds_laws.specs.MdsRuns.{MdsEvent, after_event, run_from}
+use Rattle.mds_walk.specs.MdsRuns.{MdsEvent, after_event, run_from}
 use Rattle.mds_replies.specs.ClientCalls.{AreCalls, server_after, IsEventOf}
 use Rattle.mds_replies.specs.ClientIds.{GivesId, GivesSession}
 use Rattle.mds_replies.proofs.Periods.{run_behind}

@@ -6,7 +6,7 @@ use Rattle.std.proofs.lemmas.Bool.{cond_both}
 use Rattle.std.proofs.lemmas.Option.{none-some}
 use Rattle.cluster_model.specs.Members.{IsOneOf}
 use Rattle.nfs4_session.specs.Clients.{change_first, remove_first}
-use Rattle.mds_laws.proofs.Lists.{in_more, in_last}
+use Rattle.mds_walk.proofs.Lists.{in_more, in_last}
 
 -- an element of the list has this number
 pub record HasKey {X : Type 0} (key : X → ℕ) (n : ℕ) (xs : List X) : Type 0 where

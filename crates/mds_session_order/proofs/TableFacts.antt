@@ -17,11 +17,10 @@ use Rattle.nfs4_session.specs.Requests.{request_answer, after_request}
 use Rattle.nfs4_session.specs.Beginning.{table_begun}
 use Rattle.nfs4_session.specs.Bindings.{last_session}
 use Rattle.nfs4_session.specs.Ends.{without_client, destroy_client_fault, has_ended}
-use Rattle.nfs4_session.specs.TableLaw.{TableMove, ExchangeId, CreateSession, BeginRequest, FinishRequest, Bind, CallBack, DestroySession, DestroyClient, Expire, table_after, exchanged_unless, called_back_by, destroyed_unless, expired_by, TableRun, table_moved, KeepsTable}
-use Rattle.nfs4_session.specs.TableLaw.{IsTable as StandsApart}
+use Rattle.nfs4_session.specs.TableLaw.{TableMove, ExchangeId, CreateSession, BeginRequest, FinishRequest, Bind, CallBack, DestroySession, DestroyClient, Expire, table_after, exchanged_unless, called_back_by, destroyed_unless, expired_by, TableRun, table_moved, KeepsTable, IsTable as StandsApart}
 use Rattle.mds_rule.specs.MdsStates.{MdsValue, new_mds}
-use Rattle.mds_laws.specs.MdsRuns.{MdsEvent, run_from}
-use Rattle.mds_laws.proofs.Lists.{all_in, found_in, found_passes}
+use Rattle.mds_walk.specs.MdsRuns.{MdsEvent, run_from}
+use Rattle.mds_walk.proofs.Lists.{all_in, found_in, found_passes}
 use Rattle.mds_replies.specs.ClientCalls.{server_after}
 use Rattle.mds_replies.proofs.TableKeys.{grows_with}
 use Rattle.mds_replies.proofs.TableRuns.{run_keeps}

@@ -17,7 +17,7 @@ use Rattle.nfs4_session.specs.Beginning.{table_begun}
 use Rattle.nfs4_session.specs.Bindings.{bound_to, bound_last, client_bound, last_session, called_back, client_called_back}
 use Rattle.nfs4_session.specs.Ends.{without_client, destroy_client_fault, has_ended}
 use Rattle.nfs4_session.specs.TableLaw.{TableMove, ExchangeId, CreateSession, BeginRequest, FinishRequest, Bind, CallBack, DestroySession, DestroyClient, Expire, table_after, exchanged_unless, called_back_by, destroyed_unless, expired_by}
-use Rattle.mds_laws.proofs.Lists.{AllOf, all_push, found_passes}
+use Rattle.mds_walk.proofs.Lists.{AllOf, all_push, found_passes}
 use Rattle.mds_session_order.proofs.Numbered.{HasKey, has_change, has_more, has_last, stays_or_passes}
 
 -- ---- one record behind a call

@@ -7,7 +7,6 @@ use Rattle.std.proofs.lemmas.Bool.{cond_both}
 use Rattle.std.proofs.lemmas.List.{append-nil}
 use Rattle.std.proofs.lemmas.Option.{same_Some, none-some}
 use Rattle.ff_xdr.specs.Form.{Value, arm_of}
-use Rattle.ff_xdr.specs.Arms.{of_each_arm}
 use Rattle.compound_reply.specs.Replied.{success_reply}
 use Rattle.cluster_model.specs.declared.ids.NodeId.{NodeId}
 use Rattle.cluster_model.specs.declared.ids.NodeId.TheVariants.{Server}
@@ -48,25 +47,28 @@ use Rattle.mds_rule.specs.MdsStates.{CompoundRun, WaitingWrite, ServedFile, MdsS
 use Rattle.mds_rule.specs.OpSteps.{OpStep, Goes, Ends, Waits, with_result, refuses, refused_as, unread, stopped, is_operation_number}
 use Rattle.mds_rule.specs.ServedFiles.{has_fresh, is_period_end, file_behind, file_stepped, input_at, takes_input}
 use Rattle.mds_rule.specs.FileOps.{servers_of, new_served, with_new_file}
-use Rattle.mds_rule.specs.LayoutOps.{with_holder}
+use Rattle.mds_rule.specs.LayoutOps.{with_holder, client_number}
 use Rattle.mds_rule.specs.Compounds.{operate, has_session, operates, compound_bytes, kept_in_slot, finishes, op_then, with_ops, runs, sequence_in, in_slot, sequenced, sequence_of, may_stand_alone, first_alone, first_by, first_operation, new_run}
 use Rattle.mds_rule.specs.Goes.{calls_out}
-use Rattle.mds_laws.specs.MdsRuns.{MdsInput, MdsEvent, Hears, IsTimedOut, Ticks as IsTick, RecallsFile, Resilvers, by_input, after_event, run_from}
-use Rattle.mds_laws.specs.SlotUses.{first_request}
-use Rattle.mds_laws.proofs.Lists.{AllOf, all_push, all_set, all_got}
-use Rattle.mds_laws.proofs.Keeping.{HeardAny, Becomes, Keeps, KeepsOp, TakesInput, hears_any, then_keeps, same, becomes_keeps, enters_keeps, stays}
+use Rattle.mds_walk.specs.MdsRuns.{MdsInput, MdsEvent, Hears, IsTimedOut, Ticks as IsTick, RecallsFile, Resilvers, by_input, after_event, run_from}
+use Rattle.mds_walk.specs.FirstRequests.{first_request}
+use Rattle.mds_walk.proofs.Lists.{AllOf, all_push, all_set, all_got}
+use Rattle.mds_walk.proofs.Parts.{HeardAny, Becomes, Keeps, TakesInput, AllWait, IsPlainMove}
+use Rattle.mds_walk.proofs.Keeping.{KeepsOp, hears_any, then_keeps, same, becomes_keeps, enters_keeps, stays}
 use Rattle.mds_laws.proofs.Numbers.{WereSent, sent_more, sent_with, sent_kept}
-use Rattle.mds_laws.proofs.OpsWalk.{place_served}
-use Rattle.mds_laws.proofs.Requested.{behind_request, behind_begin}
+use Rattle.mds_walk.proofs.Served.{place_served}
+use Rattle.mds_walk.proofs.Requested.{behind_request, behind_begin}
 use Rattle.mds_replies.specs.ClientCalls.{IsCallIn, HearsCall, AreCalls, server_after}
-use Rattle.mds_replies.proofs.HolderCases.{AllWait, Cases, WaitCases, OutCases, IsPlainMove}
+use Rattle.mds_replies.proofs.HolderCases.{Cases, WaitCases, OutCases}
 use Rattle.mds_replies.proofs.WaitingCompounds.{same_wait}
 use Rattle.mds_replies.proofs.PeriodKept.{sent_with_calls, in_sent}
-use Rattle.mds_replies.proofs.ServedWalk.{exchanges, creates, binds, destroys_client, reclaims_all}
-use Rattle.mds_replies.proofs.OpsWalk.{puts_fh, gets_fh, looks_up, gets_attr, opens, closes_file, commits, reads, writes, layout_gets, layout_returns, layout_commits, device_infos}
-use Rattle.mds_replies.proofs.GoesWalk.{out_walk, input_walk, begin_kept, RunsSo}
+use Rattle.mds_replies.proofs.GoesWalk.{out_walk, input_walk, begin_kept}
+use Rattle.mds_walk.proofs.EventWalk.{RunsSo}
 use Rattle.mds_replies.proofs.Turns.{behind_wait}
 use Rattle.mds_session_order.proofs.TableSteps.{DestroysNone}
+use Rattle.mds_walk.proofs.CompoundWalk.{operate_walk}
+use Rattle.mds_replies.proofs.HolderParts.{case_parts}
+use Rattle.cluster_model.specs.Phases.{holder_of}
 
 not_both : true ≡ false → ⊥
 not_both is = absurd cc
@@ -218,68 +220,14 @@ module _ (P : SessionsState → Type 0) (keeps : (s : SessionsState) (move : Tab
   returned m file s n cred errors = inputs m file s (Returns n cred (report_of errors s.file.layout.live))
 
   operate_keeps : (now : ℕ) (m : MdsValue) (c : CompoundRun) → W c → (op : Value argop4) → DestroysNoSession op → KeepsOp IsSo m (operate now m c op)
-  operate_keeps now m c its op =
-      of_each_arm argop4 (λ (v : Value argop4). DestroysNoSession v → KeepsOp IsSo m (operate now m c v)) (
-        (λ close may. closes_file IsSo HeardAny W cases m c close),
-        (
-          (λ commit may. commits IsSo HeardAny W cases m c),
-          (
-            (λ words may. gets_attr IsSo HeardAny W cases m c words),
-            (
-              (λ nothing may. gets_fh IsSo HeardAny W cases m c),
-              (
-                (λ name may. looks_up IsSo HeardAny W cases m c name),
-                (
-                  (λ opening may. opens IsSo HeardAny W cases m c opening),
-                  (
-                    (λ handle may. puts_fh IsSo HeardAny W cases m c handle),
-                    (
-                      (λ nothing may. stays IsSo m),
-                      (
-                        (λ read may. reads IsSo HeardAny W cases m c read its),
-                        (
-                          (λ write may. writes IsSo HeardAny W cases m c now write its),
-                          (
-                            (λ bind may. binds IsSo HeardAny W cases m c bind),
-                            (
-                              (λ exchange may. exchanges IsSo HeardAny W cases m c now exchange),
-                              (
-                                (λ create may. creates IsSo HeardAny W cases m c now create (λ x es ss i. i)),
-                                (
-                                  (λ session may. absurd (not_both may)),
-                                  (
-                                    (λ device may. device_infos IsSo HeardAny W cases m c device),
-                                    (
-                                      (λ commit may. layout_commits IsSo HeardAny W cases m c commit),
-                                      (
-                                        (λ layout may. layout_gets IsSo HeardAny W cases m c now layout),
-                                        (
-                                          (λ layout may. layout_returns IsSo HeardAny W cases returned m c layout),
-                                          (
-                                            (λ sequence may. stays IsSo m),
-                                            (
-                                              (λ client may. destroys_client IsSo HeardAny W cases m c client),
-                                              ((λ one_fs may. reclaims_all IsSo HeardAny W cases m c c.slot), tt),
-                                            ),
-                                          ),
-                                        ),
-                                      ),
-                                    ),
-                                  ),
-                                ),
-                              ),
-                            ),
-                          ),
-                        ),
-                      ),
-                    ),
-                  ),
-                ),
-              ),
-            ),
-          ),
-        ),
-      ) op
+  operate_keeps now m c its op may =
+      operate_walk IsSo HeardAny W (case_parts IsSo HeardAny W cases) now m c op
+      (record {
+        waits = λ is. its;
+        returns = λ is x file s errors. returned x file s (client_number (holder_of s.file.layout.phase)) s.file.layout.cred errors;
+        confirms = λ client is x es ss i. i;
+        destroys = λ is x session. absurd (not_both (sym is ∙ may));
+      })
 
   operates_keeps : (now : ℕ) (m : MdsValue) (c : CompoundRun) → W c → (op : Value argop4) → DestroysNoSession op → KeepsOp IsSo m (operates now m c op)
   operates_keeps now m c its op may =
@@ -345,7 +293,7 @@ module _ (P : SessionsState → Type 0) (keeps : (s : SessionsState) (move : Tab
 
   -- ---- events
 
-  runs_so : (now : ℕ) (input : MdsInput) (m : MdsValue) → HearsCall input → RunsSo IsSo HeardAny W cases waiting now input m
+  runs_so : (now : ℕ) (input : MdsInput) (m : MdsValue) → HearsCall input → RunsSo IsSo now input m
   runs_so now (Hears from bytes) m hears = (
     λ xid v is.
         let c = hears xid v is in

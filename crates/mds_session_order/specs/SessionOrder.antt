@@ -6,7 +6,7 @@ use Rattle.nfs4_types.specs.declared.status.Stat4.TheVariants as stat
 use Rattle.nfs4_session.specs.Clients.{client_in}
 use Rattle.table_slots.specs.TableSlots.{is_of_session}
 use Rattle.device_addr.specs.Universal.{AddressValue}
-use Rattle.mds_laws.specs.MdsRuns.{MdsEvent}
+use Rattle.mds_walk.specs.MdsRuns.{MdsEvent}
 use Rattle.mds_replies.specs.ClientCalls.{AreCalls, IsEventOf}
 use Rattle.mds_replies.specs.ClientIds.{GivesId, GivesSession}
 use Rattle.mds_replies.specs.SlotReplies.{TookEffect}

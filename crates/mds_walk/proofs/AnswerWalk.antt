@@ -1,6 +1,6 @@
 -- What comes of an answer keeps what is kept in each case: the call leaves the table of those that were sent together with what its answer
 -- does.
-use Rattle.std.proofs.Common.{◌≡◌, ℕ, true, false, List, ◌++◌, Option, Some, None, refl, sym, ap, subst, ◌∙◌}
+use Rattle.std.proofs.Common.{◌≡◌, ℕ, true, false, List, ◌++◌, Option, Some, None, refl, sym, ap, subst, ◌∙◌, ◌⊎◌, inl, inr}
 use Rattle.std.specs.Prelude.{◌-◌, ◌==◌, position, slice_get, is_some}
 use Rattle.std.specs.List.{find, list_any}
 use Rattle.std.proofs.lemmas.Bool.{cond_both, and_parts, eqb-true}
@@ -19,22 +19,37 @@ use Rattle.mds_io.specs.Reads as read
 use Rattle.mds_io.specs.OwnWrites.{after_own_reply}
 use Rattle.recall.specs.Recalls as recalls
 use Rattle.mds_rule.specs.MdsStates as mds
-use Rattle.mds_rule.specs.MdsStates.{WaitingRead, WaitingWrite, ServedFile, MdsSend, CallsServer, CallsBack, Replies, AwaitedCall, MdsValue, MdsStep, sends_none, and_then, served, with_served, is_call_to, without_call}
+use Rattle.mds_rule.specs.MdsStates.{CompoundRun, WaitingRead, WaitingWrite, ServedFile, MdsSend, CallsServer, CallsBack, Replies, AwaitedCall, MdsValue, MdsStep, sends_none, and_then, served, with_served, is_call_to}
 use Rattle.mds_rule.specs.declared.waiter.Waiter.{Waiter}
 use Rattle.mds_rule.specs.declared.waiter.Waiter.TheVariants.{ForFile, ForRead, ForWrite, ForRecall}
 use Rattle.mds_rule.specs.ServedFiles.{has_fresh, file_stepped, input_at, takes_input}
 use Rattle.mds_rule.specs.Answers.{server_number, is_read_out, is_file_out, has_read_out, has_write_out, is_awaited_by, is_awaited, sized, fileid_of, attributes_shown, sees_in, read_step_at, read_from, read_of, steps_read, steps_write, sees_ctime, recall_end, own_answer, server_answered, answered_as, answers_found, takes_answer, is_writer_out, recalls_after}
 use Rattle.mds_walk.specs.CallTables.{IsSentFor, IsOfServers, IsOfClients}
-use Rattle.mds_walk.proofs.Parts.{Becomes, Keeps, HeardOf, Hearing, IsReadAt, IsHeard, heard_by, Parts, Calls}
+use Rattle.mds_walk.proofs.Parts.{Becomes, Keeps, HeardOf, Hearing, IsReadAt, IsHeard, heard_by, Parts, Resumes, HearsOdd, Calls}
 use Rattle.mds_walk.proofs.Keeping.{none_keeps, same, becomes_keeps}
-use Rattle.mds_walk.proofs.Lists.{found_in, found_passes, put_back, none_there, first_there}
+use Rattle.mds_walk.proofs.FewBytes.{GivesFew}
+use Rattle.mds_walk.proofs.ReadEnds.{reply_steps_few}
+use Rattle.mds_walk.proofs.Lists.{got_in, found_in, found_passes, put_back, none_there, first_there}
 use Rattle.mds_walk.proofs.Served.{place_served, served_again, stepped_there}
 use Rattle.mds_walk.proofs.CompoundWalk.{read_walk, write_in_walk, recalls_walk}
 
 not_both : true ≡ false → ⊥
 not_both is = absurd cc
 
-module _ (I : MdsValue → List Entry → List MdsSend → Type 0) (Heard : HeardOf) (k : Parts I Heard) (c : Calls I Heard) where
+-- a call is for a waiter of its kind, or it is not
+is_for : (sent : MdsSend) (caller : Waiter) → IsSentFor sent caller ⊎ (IsSentFor sent caller → ⊥)
+is_for (CallsServer server xid uid call) (ForFile file) = inl tt
+is_for (CallsServer server xid uid call) (ForRead file) = inl tt
+is_for (CallsServer server xid uid call) (ForWrite file) = inl tt
+is_for (CallsServer server xid uid call) ForRecall = inr (λ no. no)
+is_for (CallsBack xid back file stateid) (ForFile other) = inr (λ no. no)
+is_for (CallsBack xid back file stateid) (ForRead other) = inr (λ no. no)
+is_for (CallsBack xid back file stateid) (ForWrite other) = inr (λ no. no)
+is_for (CallsBack xid back file stateid) ForRecall = inl tt
+is_for (Replies node reply) caller = inr (λ no. no)
+is_for (mds.Answers node bytes) caller = inr (λ no. no)
+
+module _ (I : MdsValue → List Entry → List MdsSend → Type 0) (Heard : HeardOf) (W : CompoundRun → Type 0) (k : Parts I Heard W) (g : Resumes I W) (c : Calls I Heard) where
   -- ---- what an answer shows of a mirror's size
 
   size_walk : (m : MdsValue) (file : FileId) (server : ℕ) (s : ServedFile) → served m file ≡ Some s → (fileid : Option ℕ) (shown : Option Shown) → Becomes I m (with_served m file (sized s server fileid shown))
@@ -59,7 +74,7 @@ module _ (I : MdsValue → List Entry → List MdsSend → Type 0) (Heard : Hear
 
   -- ---- of one call
 
-  module _ (now : ℕ) (node : NodeId) (xid : ℕ) (call : AwaitedCall) (replies : DsCallValue → DsReplyValue) (heard : Heard call replies) (number : call.xid ≡ xid) (its : is_call_to node xid call ≡ true) where
+  module _ (now : ℕ) (node : NodeId) (xid : ℕ) (call : AwaitedCall) (replies : DsCallValue → DsReplyValue) (few : (d : DsCallValue) → GivesFew (replies d)) (heard : Heard call replies) (number : call.xid ≡ xid) (its : is_call_to node xid call ≡ true) where
     -- it stands among those that were sent, and was found there
     record Found (m : MdsValue) : Type 0 where
       found : find (is_call_to node xid) m.calls ≡ Some call
@@ -101,8 +116,10 @@ module _ (I : MdsValue → List Entry → List MdsSend → Type 0) (Heard : Hear
       read_there m file is f t there place first None at = absurd (first_there (is_read_out xid) t.reads place first at)
       read_there m file is f t there place first (Some r) at =
           let stands : IsReadAt m file t xid place r = record { there = there; first = first; at = at } in
-          read_walk I Heard k now m (heard_by node xid m) file t place r (read.after_reply r.read xid (replies d))
+          λ es ss i.
+          read_walk I Heard W k g now m (heard_by node xid m) file t place r ((k.wait m es ss i file t there).reads_so r (got_in t.reads place r at)) (read.after_reply r.read xid (replies d))
           (c.hears_read m node xid file t call d replies place r heard (as_heard m (ForRead file) is f) stands) (λ e. c.ends_read m node xid file t call d replies place r e heard (as_heard m (ForRead file) is f) stands)
+          (reply_steps_few r.read xid (replies d) (few d)) es ss i
 
       read_first : (m : MdsValue) (file : FileId) → call.caller ≡ ForRead file → Found m → (t : ServedFile) → served m file ≡ Some t → list_any (is_read_out call.xid) t.reads ≡ true → (o : Option ℕ) → position (is_read_out xid) t.reads ≡ o
           → Keeps I m (read_from now (heard_by node xid m) file t (λ r. read.after_reply r xid (replies d)) o)
@@ -127,8 +144,8 @@ module _ (I : MdsValue → List Entry → List MdsSend → Type 0) (Heard : Hear
 
       write_walk : (m : MdsValue) (file : FileId) → call.caller ≡ ForWrite file → Found m → has_write_out xid (served m file) ≡ true → Keeps I m (steps_write now (heard_by node xid m) file (λ w. after_own_reply w xid (replies d)))
       write_walk m file is f out =
-          write_in_walk I Heard k now m (heard_by node xid m) file xid (λ w. after_own_reply w xid (replies d))
-          (λ s w there waits its. c.hears_write m node xid file s w call d replies heard (as_heard m (ForWrite file) is f) there waits its) (served m file) refl out
+          write_in_walk I Heard W k g now m (heard_by node xid m) file xid (λ w. after_own_reply w xid (replies d))
+          (λ s w there waits its. c.hears_write m node xid file s w call d replies heard (as_heard m (ForWrite file) is f) there waits its) (λ es ss i s there. k.wait m es ss i file s there) (served m file) refl out
 
       -- behind what the answer shows of the mirror's ctime
       ctime_walk : (m : MdsValue) (file : FileId) → call.caller ≡ ForWrite file → Found m → (t : ServedFile) → served m file ≡ Some t → is_writer_out xid t.write ≡ true → (fileid : Option ℕ) (shown : Option Shown) → fileid_of d (replies d) ≡ fileid → attributes_shown (replies d) ≡ shown
@@ -172,29 +189,50 @@ module _ (I : MdsValue → List Entry → List MdsSend → Type 0) (Heard : Hear
     back_walk m f status (ForRead file) is fits out = absurd fits
     back_walk m f status (ForWrite file) is fits out = absurd fits
     back_walk m f status ForRecall is fits out =
-        recalls_walk I Heard k m (heard_by node xid m) (recalls.after_reply m.recalls xid (recall_end status)) (c.hears_recall m node xid status call f.found is (ap (λ (x : ℕ). is_some (recalls.out_at m.recalls x)) (sym number) ∙ out))
+        recalls_walk I Heard W k g m (heard_by node xid m) (recalls.after_reply m.recalls xid (recall_end status)) (c.hears_recall m node xid status call f.found is (ap (λ (x : ℕ). is_some (recalls.out_at m.recalls x)) (sym number) ∙ out))
 
-    answered_walk : (m : MdsValue) → Found m → (status : ℕ) (sent : MdsSend) → call.sent ≡ sent → IsSentFor sent call.caller → is_awaited m call ≡ true
+    fitting_walk : (m : MdsValue) → Found m → (status : ℕ) (sent : MdsSend) → call.sent ≡ sent → IsSentFor sent call.caller → is_awaited m call ≡ true
         → Keeps I m (answered_as now (heard_by node xid m) xid replies status call.caller sent)
-    answered_walk m f status (CallsServer server own uid d) sent fits out = server_walk server own uid d sent m f call.caller refl fits out
-    answered_walk m f status (CallsBack own back file stateid) sent fits out = back_walk m f status call.caller refl fits out
-    answered_walk m f status (Replies to other) sent fits out = absurd fits
-    answered_walk m f status (mds.Answers to bytes) sent fits out = absurd fits
+    fitting_walk m f status (CallsServer server own uid d) sent fits out = server_walk server own uid d sent m f call.caller refl fits out
+    fitting_walk m f status (CallsBack own back file stateid) sent fits out = back_walk m f status call.caller refl fits out
+    fitting_walk m f status (Replies to other) sent fits out = absurd fits
+    fitting_walk m f status (mds.Answers to bytes) sent fits out = absurd fits
+
+    -- where it is for a waiter of another kind
+    odd_walk : HearsOdd I → (m : MdsValue) → (status : ℕ) (sent : MdsSend) → (IsSentFor sent call.caller → ⊥) → call.sent ≡ sent → Keeps I m (answered_as now (heard_by node xid m) xid replies status call.caller sent)
+    odd_walk odd m status (CallsServer server own uid d) off sent = by_caller call.caller off
+      where
+        by_caller : (caller : Waiter) → (IsOfServers caller → ⊥) → Keeps I m (server_answered now (heard_by node xid m) server xid d (replies d) caller)
+        by_caller (ForFile file) other = absurd (other tt)
+        by_caller (ForRead file) other = absurd (other tt)
+        by_caller (ForWrite file) other = absurd (other tt)
+        by_caller ForRecall other = none_keeps I m (heard_by node xid m) (odd.leaves m node xid)
+    odd_walk odd m status (CallsBack own back file stateid) off sent = recalls_walk I Heard W k g m (heard_by node xid m) (recalls.after_reply m.recalls xid (recall_end status)) (odd.recalled m node xid status)
+    odd_walk odd m status (Replies to other) off sent = none_keeps I m (heard_by node xid m) (odd.leaves m node xid)
+    odd_walk odd m status (mds.Answers to bytes) off sent = none_keeps I m (heard_by node xid m) (odd.leaves m node xid)
+
+    answered_walk : (m : MdsValue) → Found m → (status : ℕ) → IsSentFor call.sent call.caller ⊎ HearsOdd I → is_awaited m call ≡ true → Keeps I m (answered_as now (heard_by node xid m) xid replies status call.caller call.sent)
+    answered_walk m f status fits is = by_kind (is_for call.sent call.caller) fits
+      where
+        by_kind : IsSentFor call.sent call.caller ⊎ (IsSentFor call.sent call.caller → ⊥) → IsSentFor call.sent call.caller ⊎ HearsOdd I → Keeps I m (answered_as now (heard_by node xid m) xid replies status call.caller call.sent)
+        by_kind (inl its) either = fitting_walk m f status call.sent refl its is
+        by_kind (inr off) (inl its) = fitting_walk m f status call.sent refl its is
+        by_kind (inr off) (inr odd) = odd_walk odd m status call.sent off refl
 
   -- ---- the call that is answered
 
-  found_walk : (now : ℕ) (m : MdsValue) (node : NodeId) (xid : ℕ) (replies : DsCallValue → DsReplyValue) (status : ℕ) → Hearing I Heard node xid replies → (o : Option AwaitedCall) → find (is_call_to node xid) m.calls ≡ o
+  found_walk : (now : ℕ) (m : MdsValue) (node : NodeId) (xid : ℕ) (replies : DsCallValue → DsReplyValue) (status : ℕ) → Hearing I Heard node xid replies → ((d : DsCallValue) → GivesFew (replies d)) → (o : Option AwaitedCall) → find (is_call_to node xid) m.calls ≡ o
       → Keeps I m (answers_found now m node xid replies status o)
-  found_walk now m node xid replies status hearing None found = same I m
-  found_walk now m node xid replies status hearing (Some call) found =
+  found_walk now m node xid replies status hearing few None found = same I m
+  found_walk now m node xid replies status hearing few (Some call) found =
       let n : MdsValue = heard_by node xid m in
       let its : is_call_to node xid call ≡ true = found_passes (is_call_to node xid) m.calls call found in
       let inside : IsOneOf call m.calls = found_in (is_call_to node xid) m.calls call found in
       cond_both (is_awaited m call) (answered_as now n xid replies status call.caller call.sent) (sends_none n) (λ (s : MdsStep). Keeps I m s)
       (λ is. λ es ss i.
-      answered_walk now node xid call replies (hearing m es ss i call inside its) (eqb-true call.xid xid (and_parts (is_node call.node node) (call.xid == xid) its).1) its m (record { found = found; inside = inside }) status call.sent refl
+      answered_walk now node xid call replies few (hearing m es ss i call inside its) (eqb-true call.xid xid (and_parts (is_node call.node node) (call.xid == xid) its).1) its m (record { found = found; inside = inside }) status
       (c.fits m es ss i call inside) is es ss i)
       (λ off. none_keeps I m n (c.leaves m node xid call inside its off))
 
-  pub answer_walk : (now : ℕ) (m : MdsValue) (node : NodeId) (xid : ℕ) (replies : DsCallValue → DsReplyValue) (status : ℕ) → Hearing I Heard node xid replies → Keeps I m (takes_answer now m node xid replies status)
-  answer_walk now m node xid replies status hearing = found_walk now m node xid replies status hearing (find (is_call_to node xid) m.calls) refl
+  pub answer_walk : (now : ℕ) (m : MdsValue) (node : NodeId) (xid : ℕ) (replies : DsCallValue → DsReplyValue) (status : ℕ) → Hearing I Heard node xid replies → ((d : DsCallValue) → GivesFew (replies d)) → Keeps I m (takes_answer now m node xid replies status)
+  answer_walk now m node xid replies status hearing few = found_walk now m node xid replies status hearing few (find (is_call_to node xid) m.calls) refl

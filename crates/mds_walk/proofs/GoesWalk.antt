@@ -15,19 +15,20 @@ use Rattle.mirror_writer.specs.Writers.{WriterSends}
 use Rattle.mirror_writer.specs.Writers as writer
 use Rattle.nfs4_session.specs.Clients.{SessionState, has_id, change_first, with_clients}
 use Rattle.nfs4_session.specs.Bindings.{last_session, client_called_back}
-use Rattle.nfs4_session.specs.TableLaw.{CallBack, called_back_by}
+use Rattle.nfs4_session.specs.TableLaw.{called_back_by}
 use Rattle.recall.specs.Recalls.{RecallSends, next_sent}
 use Rattle.mds_rule.specs.MdsStates.{WaitingRead, WaitingWrite, ServedFile, MdsSend, AwaitedCall, MdsValue, MdsStep, sends_none, and_then, is_call_to, served, numbered}
 use Rattle.mds_rule.specs.declared.waiter.Waiter.TheVariants.{ForRead}
 use Rattle.mds_rule.specs.Goes.{xid_after, calls_server, OwnCall, own_of_file, own_of_write, own_by, place_of, own_call_at, own_next, has_xids, own_call, own_two, own_calls, read_goes, read_call, read_call_in, each, read_count, read_calls, calls_back, recall_goes, recall_call, repeats_call, repeats, place_calls, file_calls, calls_out}
-use Rattle.mds_walk.proofs.Parts.{Becomes, Keeps, HeardOf, with_read_at, Parts, Calls}
+use Rattle.mds_walk.proofs.Parts.{Becomes, Keeps, with_read_at, OutParts}
 use Rattle.mds_walk.proofs.Keeping.{then_keeps, none_keeps, same, becomes_keeps}
 
-module _ (I : MdsValue → List Entry → List MdsSend → Type 0) (Heard : HeardOf) (k : Parts I Heard) (c : Calls I Heard) where
+module _ (I : MdsValue → List Entry → List MdsSend → Type 0) where
   pub each_walk : {A : Type 0} (step : A → MdsValue → MdsStep) → ((a : A) (m : MdsValue) → Keeps I m (step a m)) → (list : List A) (m : MdsValue) → Keeps I m (each step list m)
   each_walk step all [] m = same I m
   each_walk step all (a ∷ list) m = then_keeps I m (step a m) (λ n. each step list n) (all a m) (λ n. each_walk step all list n)
 
+module _ (I : MdsValue → List Entry → List MdsSend → Type 0) (k : OutParts I) where
   -- ---- a file's own calls
 
   own_call_walk : (m : MdsValue) (file : FileId) (s : ServedFile) (place : ℕ) (o : OwnCall) → Keeps I m (calls_server m file o.served o.caller o.server o.uid o.call) → Keeps I m (own_call_at m file s place (Some o))
@@ -37,12 +38,12 @@ module _ (I : MdsValue → List Entry → List MdsSend → Type 0) (Heard : Hear
   own_file_walk : (m : MdsValue) (file : FileId) (place : ℕ) → has_xids m ≡ true → (s : ServedFile) → served m file ≡ Some s → s.write ≡ None → (o : Option CallOut) → call_out s.file m.next_xid ≡ o
       → Keeps I m (own_call_at m file s place (option_map (own_of_file file s) o))
   own_file_walk m file place has s is idle None its = same I m
-  own_file_walk m file place has s is idle (Some out) its = own_call_walk m file s place (own_of_file file s out) (c.calls_file m file s out is has idle its)
+  own_file_walk m file place has s is idle (Some out) its = own_call_walk m file s place (own_of_file file s out) (k.calls_file m file s out is has idle its)
 
   own_write_walk : (m : MdsValue) (file : FileId) (place : ℕ) → has_xids m ≡ true → (s : ServedFile) → served m file ≡ Some s → (w : WaitingWrite) → s.write ≡ Some w → (o : Option WriterSends)
       → writer.next_sent w.writer m.next_xid ≡ o → Keeps I m (own_call_at m file s place (option_map (own_of_write file s w) o))
   own_write_walk m file place has s is w waits None its = same I m
-  own_write_walk m file place has s is w waits (Some out) its = own_call_walk m file s place (own_of_write file s w out) (c.calls_write m file s w out is has waits its)
+  own_write_walk m file place has s is w waits (Some out) its = own_call_walk m file s place (own_of_write file s w out) (k.calls_write m file s w out is has waits its)
 
   own_by_walk : (m : MdsValue) (file : FileId) (place : ℕ) → has_xids m ≡ true → (s : ServedFile) → served m file ≡ Some s → (o : Option WaitingWrite) → s.write ≡ o
       → Keeps I m (own_call_at m file s place (own_by file s m.next_xid o))
@@ -70,7 +71,7 @@ module _ (I : MdsValue → List Entry → List MdsSend → Type 0) (Heard : Hear
   read_goes_walk m file s is n place r at None its = same I m
   read_goes_walk m file s is n place r at (Some sent) its =
       cond_both ((place_of s sent.id.server == place) && has_xids m) (calls_server m file (with_read_at s n r sent.read) (ForRead file) sent.id.server 0 sent.call) (sends_none m) (λ (x : MdsStep). Keeps I m x)
-      (λ both. c.calls_read m file s n r sent is (and_parts (place_of s sent.id.server == place) (has_xids m) both).1 at its) (λ off. same I m)
+      (λ both. k.calls_read m file s n r sent is (and_parts (place_of s sent.id.server == place) (has_xids m) both).1 at its) (λ off. same I m)
 
   read_call_walk : (m : MdsValue) (file : FileId) (s : ServedFile) → served m file ≡ Some s → (n place : ℕ) (o : Option WaitingRead) → slice_get s.reads n ≡ o → Keeps I m (read_call m file s n place o)
   read_call_walk m file s is n place None at = same I m
@@ -81,22 +82,22 @@ module _ (I : MdsValue → List Entry → List MdsSend → Type 0) (Heard : Hear
   read_in_walk file place n m (Some s) is = read_call_walk m file s is n place (slice_get s.reads n) refl
 
   reads_walk : (file : FileId) (place : ℕ) (m : MdsValue) → Keeps I m (read_calls file place m)
-  reads_walk file place m = each_walk (λ n x. read_call_in file place n x (served x file)) (λ n x. read_in_walk file place n x (served x file) refl) (range_with_len 0 (read_count (served m file))) m
+  reads_walk file place m = each_walk I (λ n x. read_call_in file place n x (served x file)) (λ n x. read_in_walk file place n x (served x file) refl) (range_with_len 0 (read_count (served m file))) m
 
   -- ---- recalls
 
   back_walk : (m : MdsValue) (sent : RecallSends) → has_xids m ≡ true → next_sent m.recalls m.next_xid ≡ Some sent → (o : Option SessionState) → Becomes I m (record m { sessions = called_back_by m.sessions sent.call.client o })
       → Keeps I m (calls_back (record m { recalls = sent.recalls }) sent.call o)
-  back_walk m sent has its None b = none_keeps I m (record m { recalls = sent.recalls; next_xid = xid_after m.next_xid }) (c.skips m sent has its)
+  back_walk m sent has its None b = none_keeps I m (record m { recalls = sent.recalls; next_xid = xid_after m.next_xid }) (k.skips m sent has its)
   back_walk m sent has its (Some session) b =
       let n : MdsValue = record m { sessions = with_clients m.sessions (change_first (has_id sent.call.client) (client_called_back session.number) m.sessions.clients) } in
-      becomes_keeps I m n (calls_back (record m { recalls = sent.recalls }) sent.call (Some session)) b (c.calls_back n sent session has its)
+      becomes_keeps I m n (calls_back (record m { recalls = sent.recalls }) sent.call (Some session)) b (k.calls_back n sent session has its)
 
   recall_goes_walk : (m : MdsValue) (file : FileId) → has_xids m ≡ true → (o : Option RecallSends) → next_sent m.recalls m.next_xid ≡ o → Keeps I m (recall_goes m file o)
   recall_goes_walk m file has None its = same I m
   recall_goes_walk m file has (Some sent) its =
       cond_both (sent.call.file.0 == file.0) (calls_back (record m { recalls = sent.recalls }) sent.call (last_session (find (has_id sent.call.client) m.sessions.clients))) (sends_none m) (λ (s : MdsStep). Keeps I m s)
-      (λ is. back_walk m sent has its (last_session (find (has_id sent.call.client) m.sessions.clients)) (k.tables m (CallBack sent.call.client) tt)) (λ off. same I m)
+      (λ is. back_walk m sent has its (last_session (find (has_id sent.call.client) m.sessions.clients)) (k.back m sent.call.client)) (λ off. same I m)
 
   recall_walk : (file : FileId) (m : MdsValue) → Keeps I m (recall_call file m)
   recall_walk file m = cond_both (has_xids m) (recall_goes m file (next_sent m.recalls m.next_xid)) (sends_none m) (λ (s : MdsStep). Keeps I m s) (λ has. recall_goes_walk m file has (next_sent m.recalls m.next_xid) refl) (λ off. same I m)
@@ -105,7 +106,7 @@ module _ (I : MdsValue → List Entry → List MdsSend → Type 0) (Heard : Hear
 
   repeat_walk : (m : MdsValue) (server xid : ℕ) (o : Option AwaitedCall) → find (is_call_to (Server server) xid) m.calls ≡ o → Keeps I m (repeats_call m o)
   repeat_walk m server xid None found = same I m
-  repeat_walk m server xid (Some call) found = λ es ss i. subst (λ (l : List Entry). I m l (ss ++ call.sent ∷ [])) (sym (append-nil es)) (c.repeats m server xid call found es ss i)
+  repeat_walk m server xid (Some call) found = λ es ss i. subst (λ (l : List Entry). I m l (ss ++ call.sent ∷ [])) (sym (append-nil es)) (k.repeats m server xid call found es ss i)
 
   repeats_walk : (kept : Option (Option (ℕ × ℕ))) (m : MdsValue) → Keeps I m (repeats kept m)
   repeats_walk None m = same I m
@@ -121,7 +122,7 @@ module _ (I : MdsValue → List Entry → List MdsSend → Type 0) (Heard : Hear
   file_walk kept n m =
       then_keeps I m (and_then (recall_call (numbered n) m) (repeats (slice_get kept (n - 1)))) (each (place_calls (numbered n)) (0 ∷ 1 ∷ 2 ∷ 3 ∷ 4 ∷ []))
       (then_keeps I m (recall_call (numbered n) m) (repeats (slice_get kept (n - 1))) (recall_walk (numbered n) m) (λ x. repeats_walk (slice_get kept (n - 1)) x))
-      (λ x. each_walk (place_calls (numbered n)) (λ place y. place_walk (numbered n) place y) (0 ∷ 1 ∷ 2 ∷ 3 ∷ 4 ∷ []) x)
+      (λ x. each_walk I (place_calls (numbered n)) (λ place y. place_walk (numbered n) place y) (0 ∷ 1 ∷ 2 ∷ 3 ∷ 4 ∷ []) x)
 
   pub out_walk : (kept : List (Option (ℕ × ℕ))) (m : MdsValue) → Keeps I m (calls_out kept m)
-  out_walk kept m = each_walk (file_calls kept) (λ n x. file_walk kept n x) (range_with_len 1 (length m.files)) m
+  out_walk kept m = each_walk I (file_calls kept) (λ n x. file_walk kept n x) (range_with_len 1 (length m.files)) m

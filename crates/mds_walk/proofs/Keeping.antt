@@ -4,7 +4,7 @@ use Rattle.std.proofs.lemmas.List.{append_assoc, append-nil}
 use Rattle.cluster_model.specs.declared.entry.Entry.{Entry}
 use Rattle.mds_rule.specs.MdsStates.{MdsSend, MdsValue, MdsStep, sends_none, enters, and_then}
 use Rattle.mds_rule.specs.OpSteps.{OpStep, Goes, Ends, Waits}
-use Rattle.mds_laws.specs.MdsRuns.{MdsInput, Hears, IsTimedOut, Ticks as IsTick, RecallsFile, Resilvers}
+use Rattle.mds_walk.specs.MdsRuns.{MdsInput, Hears, IsTimedOut, Ticks as IsTick, RecallsFile, Resilvers}
 use Rattle.mds_walk.proofs.Parts.{Becomes, Enters, Keeps, HeardAny, HearsSo}
 
 abbrev pub KeepsOp : (MdsValue → List Entry → List MdsSend → Type 0) → MdsValue → OpStep → Type 0

@@ -12,12 +12,11 @@ use Rattle.cluster_model.specs.declared.layout_state.LayoutPhase.TheVariants.{Ma
 use Rattle.cluster_model.specs.Phases.{holder_of}
 use Rattle.layout_state.specs.declared.grant.GrantFault.{GrantFault}
 use Rattle.layout_state.specs.declared.grant.GrantFault.TheVariants.{Later, Recalling, Spent}
-use Rattle.layout_state.specs.Grants.{grant_fault_by}
+use Rattle.layout_state.specs.Grants.{grant_fault_by, is_held}
 use Rattle.nfs4_types.specs.declared.status.Stat4.{Stat4}
 use Rattle.mds_operations.specs.Orders.{Order, refusal}
 use Rattle.mds_operations.specs.LayoutGets.{is_later, is_recalled, is_spent, layout_get_order}
 use Rattle.nfs4_file_ops.specs.declared.layout_get.LayoutGetArgs.{LayoutGetArgs}
-use Rattle.layout_state.specs.Grants.{is_held}
 use Rattle.mds_rule.specs.MdsStates.{CompoundRun, ServedFile, MdsValue, served}
 use Rattle.mds_rule.specs.FileOps.{client_of, current_file, uids_left}
 use Rattle.mds_rule.specs.LayoutOps.{holds_by, fault_of_holder, layout_fault, layout_found, is_granted}

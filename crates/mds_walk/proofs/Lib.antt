@@ -3,12 +3,14 @@ pub mod Parts
 pub mod Keeping
 pub mod Requested
 pub mod Served
-mod LateFound
-mod LayoutHolders
-mod ServedWalk
+pub mod LateFound
+pub mod LayoutHolders
+pub mod FewBytes
+mod ReadEnds
+pub mod ServedWalk
 pub mod OpsWalk
-mod CompoundWalk
+pub mod CompoundWalk
 mod AnswerWalk
-mod GoesWalk
+pub mod GoesWalk
 pub mod EventWalk
 pub mod TableKept

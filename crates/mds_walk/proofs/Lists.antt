@@ -1,9 +1,10 @@
--- What stands in a list, and what is put back there.
-use Rattle.std.proofs.Common.{arith, ◌≡◌, ◌≤◌, ◌<◌, ℕ, ◌+◌, zero, suc, Bool, true, false, cond, ltb, length, None, List, [], ◌∷◌, ◌++◌, Some, refl, sym, ap, ◌∙◌, inl, inr, ◌⊎◌}
+-- What stands in a list, what is put back there, and what holds of each of its elements behind those before it.
+use Rattle.std.proofs.Common.{arith, ◌≡◌, ◌≤◌, ◌<◌, ℕ, ◌+◌, zero, suc, Bool, true, false, cond, ltb, length, None, List, [], ◌∷◌, ◌++◌, Some, refl, sym, ap, subst, ◌∙◌, inl, inr, ◌⊎◌}
 use Rattle.std.specs.Prelude.{◌==◌, ◌||◌, not, nat_lt, if◌then◌else◌, filter, position, slice_get, slice_set}
 use Rattle.std.specs.List.{find, list_any, prefix_len, position_or_len}
 use Rattle.std.proofs.lemmas.Bool.{cond_both, ltb-false}
 use Rattle.std.proofs.lemmas.List.Quantifiers.{position-Some}
+use Rattle.std.proofs.lemmas.List.{append_assoc, append-nil}
 use Rattle.std.proofs.lemmas.Option.{same_Some, none-some}
 use Rattle.cluster_model.specs.Members.{IsOneOf}
 use Rattle.mds_rule.specs.MdsStates.{AwaitedCall, with_call}
@@ -75,6 +76,16 @@ found_passes {A = A} test (y ∷ xs) x is = by_test (test y) refl is (found_pass
     by_test true passes its more = ap test (sym (same_Some y x its)) ∙ passes
     by_test false passes its more = more its
 
+pub record Split {A : Type 0} (x : A) (xs : List A) : Type 0 where
+  pub front : List A
+  pub behind : List A
+  pub is : xs ≡ front ++ x ∷ behind
+
+pub split_in : {A : Type 0} (x : A) (xs : List A) → IsOneOf x xs → Split x xs
+split_in x [] inside = absurd inside
+split_in x (y ∷ ys) (inl is) = record { front = []; behind = ys; is = ap (λ z. z ∷ ys) (sym is) }
+split_in x (y ∷ ys) (inr inside) = let s : Split x ys = split_in x ys inside in record { front = y ∷ s.front; behind = s.behind; is = ap (λ l. y ∷ l) s.is }
+
 -- ---- what is put at a place
 
 pub put_back : {A : Type 0} (xs : List A) (place : ℕ) (x : A) → slice_get xs place ≡ Some x → slice_set xs place x ≡ xs
@@ -113,8 +124,49 @@ pub first_there : {X : Type 0} (p : X → Bool) (xs : List X) (place : ℕ) → 
 first_there p [] place is none = none-some place is
 first_there p (y ∷ ys) place is none = got_there (y ∷ ys) place (position-Some p (y ∷ ys) place y is).0 none
 
+-- ---- each element is so, behind those before it
+
+abbrev pub EachOf : {A : Type 0} → (List A → A → Type 0) → List A → List A → Type 0
+EachOf P past [] = Unit {0}
+EachOf P past (x ∷ xs) = P past x × EachOf P (past ++ x ∷ []) xs
+
+pub each_push : {A : Type 0} (P : List A → A → Type 0) (past xs : List A) (x : A) → EachOf P past xs → P (past ++ xs) x → EachOf P past (xs ++ x ∷ [])
+each_push {A = A} P past [] x each now = (subst (λ (l : List A). P l x) (append-nil past) now, tt)
+each_push {A = A} P past (y ∷ xs) x each now = (each.0, each_push P (past ++ y ∷ []) xs x each.1 (subst (λ (l : List A). P l x) (sym (append_assoc past (y ∷ []) xs)) now))
+
+pub each_join : {A : Type 0} (P : List A → A → Type 0) (past xs ys : List A) → EachOf P past xs → EachOf P (past ++ xs) ys → EachOf P past (xs ++ ys)
+each_join {A = A} P past [] ys each more = subst (λ (l : List A). EachOf P l ys) (append-nil past) more
+each_join {A = A} P past (x ∷ xs) ys each more = (each.0, each_join P (past ++ x ∷ []) xs ys each.1 (subst (λ (l : List A). EachOf P l ys) (sym (append_assoc past (x ∷ []) xs)) more))
+
+pub each_at : {A : Type 0} (P : List A → A → Type 0) (past before after : List A) (x : A) → EachOf P past (before ++ x ∷ after) → P (past ++ before) x
+each_at {A = A} P past [] after x each = subst (λ (l : List A). P l x) (sym (append-nil past)) each.0
+each_at {A = A} P past (y ∷ before) after x each = subst (λ (l : List A). P l x) (append_assoc past (y ∷ []) before) (each_at P (past ++ y ∷ []) before after x each.1)
+
 -- ---- each element is so
 
 abbrev pub AllOf : {A : Type 0} → (A → Type 0) → List A → Type 0
 AllOf P [] = Unit {0}
 AllOf P (x ∷ xs) = P x × AllOf P xs
+
+pub all_push : {A : Type 0} (P : A → Type 0) (xs : List A) (x : A) → AllOf P xs → P x → AllOf P (xs ++ x ∷ [])
+all_push P [] x all is = (is, tt)
+all_push P (y ∷ ys) x all is = (all.0, all_push P ys x all.1 is)
+
+pub all_in : {A : Type 0} (P : A → Type 0) (xs : List A) (x : A) → AllOf P xs → IsOneOf x xs → P x
+all_in P [] x all inside = absurd inside
+all_in P (y ∷ ys) x all (inl is) = subst P (sym is) all.0
+all_in P (y ∷ ys) x all (inr inside) = all_in P ys x all.1 inside
+
+pub all_set : {A : Type 0} (P : A → Type 0) (xs : List A) (place : ℕ) (x : A) → AllOf P xs → P x → AllOf P (slice_set xs place x)
+all_set P [] place x all is = tt
+all_set P (y ∷ ys) zero x all is = (is, all.1)
+all_set P (y ∷ ys) (suc place) x all is = (all.0, all_set P ys place x all.1 is)
+
+pub all_got : {A : Type 0} (P : A → Type 0) (xs : List A) (place : ℕ) (x : A) → AllOf P xs → slice_get xs place ≡ Some x → P x
+all_got P [] place x all is = absurd cc
+all_got P (y ∷ ys) zero x all is = subst P (same_Some y x is) all.0
+all_got P (y ∷ ys) (suc place) x all is = all_got P ys place x all.1 is
+
+pub all_split : {A : Type 0} (P : A → Type 0) (before after : List A) (x : A) → AllOf P (before ++ x ∷ after) → P x
+all_split P [] after x all = all.0
+all_split P (y ∷ before) after x all = all_split P before after x all.1

@@ -32,7 +32,7 @@ use Rattle.nfs4_file_ops.specs.LayoutCommit.{layoutcommit4_args}
 use Rattle.nfs4_file_ops.specs.LayoutGet.{layoutget4_args}
 use Rattle.nfs4_file_ops.specs.LayoutReturn.{layoutreturn4, layoutreturn_file4, layoutreturn4_args}
 use Rattle.open_state.specs.declared.open.Open.{Open}
-use Rattle.open_state.specs.Opens.{open_of}
+use Rattle.open_state.specs.Opens.{open_of, opened, closed}
 use Rattle.mds_operations.specs.declared.object.Object.{Object}
 use Rattle.mds_operations.specs.declared.object.Object.TheVariants.{File}
 use Rattle.mds_operations.specs.declared.open.Creation.{Creation}
@@ -53,10 +53,9 @@ use Rattle.mds_rule.specs.MdsStates.{CompoundRun, ServedFile, MdsSend, MdsValue,
 use Rattle.mds_rule.specs.OpSteps.{OpStep, with_result, at_object, gives, refused_or}
 use Rattle.mds_rule.specs.ServedFiles.{has_fresh, file_stepped, input_at, asks_back, ends_periods}
 use Rattle.mds_rule.specs.SessionOps.{goes_with}
-use Rattle.open_state.specs.Opens.{opened, closed}
 use Rattle.mds_rule.specs.FileOps.{client_of, current_file, file_or_none, stateid_in, named_in, write_verifier, phase_or_free, uids_left, put_object, runs_put_fh, get_object, runs_get_fh, runs_lookup, get_attributes, runs_get_attr, with_new_file, opens_or_makes, opens_file, open_named, creation_in, can_open, may_make, runs_open, name_in, closes, runs_close, runs_commit, reads_at, runs_read, read_length, with_read, with_write, writes_at, writes_file, ends_by, write_refused, runs_write, write_ask, is_delay}
 use Rattle.mds_rule.specs.LayoutOps.{no_stateid, layout_asked, layout_found, with_holder, granted_in, grants_to, is_granted, phase_behind, later_by, layout_answer, runs_layout_get, is_try_later, errors_of, client_number, return_by, returns_file, file_return, returns_all, runs_layout_return, runs_layout_commit, device_from, device_size, device_answer, runs_get_device_info}
-use Rattle.mds_walk.proofs.Parts.{Enters, HeardOf, CanBegin, Parts, TakesInput}
+use Rattle.mds_walk.proofs.Parts.{Enters, HeardOf, CanBegin, Parts, TakesInput, TakesReturns}
 use Rattle.mds_walk.proofs.Keeping.{KeepsOp, no_entries, stays, enters_then}
 use Rattle.mds_walk.proofs.Served.{stepped_there}
 use Rattle.mds_walk.proofs.ServedWalk.{asks, periods, refused, unless_refused, takes_by}
@@ -132,7 +131,7 @@ let_begin m c s ask at bytes offset count uids free some so =
       within = subst (λ (n : ℕ). at + n ≤ MAX_FILE) count (subst (λ (n : ℕ). n + ask.length ≤ MAX_FILE) offset within);
     }
 
-module _ (I : MdsValue → List Entry → List MdsSend → Type 0) (Heard : HeardOf) (k : Parts I Heard) where
+module _ (I : MdsValue → List Entry → List MdsSend → Type 0) (Heard : HeardOf) (W : CompoundRun → Type 0) (k : Parts I Heard W) where
   -- ---- names and opens
 
   object_put : (m : MdsValue) (c : CompoundRun) (o : Option Object) → KeepsOp I m (put_object m c o)
@@ -140,7 +139,7 @@ module _ (I : MdsValue → List Entry → List MdsSend → Type 0) (Heard : Hear
   object_put m c (Some object) = stays I m
 
   pub puts_fh : (m : MdsValue) (c : CompoundRun) (handle : List ℕ) → KeepsOp I m (runs_put_fh m c handle)
-  puts_fh m c handle = refused I Heard k m c 22 (refusal (put_fh_order handle (length m.files))) _ (object_put m c (object_of handle))
+  puts_fh m c handle = refused I Heard W k m c 22 (refusal (put_fh_order handle (length m.files))) _ (object_put m c (object_of handle))
 
   object_got : (m : MdsValue) (c : CompoundRun) (o : Option Object) → KeepsOp I m (get_object m c o)
   object_got m c None = stays I m
@@ -151,7 +150,7 @@ module _ (I : MdsValue → List Entry → List MdsSend → Type 0) (Heard : Hear
 
   pub looks_up : (m : MdsValue) (c : CompoundRun) (name : List ℕ) → KeepsOp I m (runs_lookup m c name)
   looks_up m c name =
-      refused I Heard k m c 15 (refusal (lookup_order c.current name (file_named m name))) (gives m (at_object c (File (file_or_none (file_named m name)))) (arm 15 resop4 (inl tt))) (stays I m)
+      refused I Heard W k m c 15 (refusal (lookup_order c.current name (file_named m name))) (gives m (at_object c (File (file_or_none (file_named m name)))) (arm 15 resop4 (inl tt))) (stays I m)
 
   attributes_got : (m : MdsValue) (c : CompoundRun) (words : List ℕ) (o : Option Object) → KeepsOp I m (get_attributes m c words o)
   attributes_got m c words None = stays I m
@@ -162,10 +161,10 @@ module _ (I : MdsValue → List Entry → List MdsSend → Type 0) (Heard : Hear
 
   open_walk : (m : MdsValue) (c : CompoundRun) (access : ℕ) (creation : Creation) (name : List ℕ) (o : Option FileId) → KeepsOp I m (open_named m c access creation name o)
   open_walk m c access creation name (Some file) =
-      refused I Heard k m c 18 (refusal (open_order c.current name access creation (found_of m c (Some file)))) (opens_file m c file)
+      refused I Heard W k m c 18 (refusal (open_order c.current name access creation (found_of m c (Some file)))) (opens_file m c file)
       (no_entries I m (record m { opens = opened m.opens (client_of c) file }) (k.opens m (client_of c) file))
   open_walk m c access creation name None =
-      unless_refused I Heard k m c 18 (refusal (open_order c.current name access creation (found_of m c None))) (opens_or_makes m c name None)
+      unless_refused I Heard W k m c 18 (refusal (open_order c.current name access creation (found_of m c None))) (opens_or_makes m c name None)
       (λ so.
       no_entries I m (record (with_new_file m name) { opens = opened m.opens (client_of c) (numbered (length m.files + 1)) })
       (λ es ss i. k.opens (with_new_file m name) (client_of c) (numbered (length m.files + 1)) es ss (k.makes m name (makes_so m c access creation name so) es ss i)))
@@ -178,45 +177,45 @@ module _ (I : MdsValue → List Entry → List MdsSend → Type 0) (Heard : Hear
   close_walk m c file (Some o) = no_entries I m (record m { opens = closed m.opens (client_of c) file }) (k.closes m (client_of c) file)
 
   pub closes_file : (m : MdsValue) (c : CompoundRun) (args : Value close4_args) → KeepsOp I m (runs_close m c args)
-  closes_file m c (seqid, stateid) = refused I Heard k m c 4 _ _ (close_walk m c (current_file c) (open_of m.opens (client_of c) (current_file c)))
+  closes_file m c (seqid, stateid) = refused I Heard W k m c 4 _ _ (close_walk m c (current_file c) (open_of m.opens (client_of c) (current_file c)))
 
   pub commits : (m : MdsValue) (c : CompoundRun) → KeepsOp I m (runs_commit m c)
-  commits m c = refused I Heard k m c 5 (refusal (commit_order c.current)) (gives m c (arm 5 resop4 (inl write_verifier))) (stays I m)
+  commits m c = refused I Heard W k m c 5 (refusal (commit_order c.current)) (gives m c (arm 5 resop4 (inl write_verifier))) (stays I m)
 
   -- ---- bytes
 
-  read_walk : (m : MdsValue) (c : CompoundRun) (file : FileId) (at count : ℕ) (o : Option ServedFile) → served m file ≡ o → KeepsOp I m (reads_at m c file at count o)
-  read_walk m c file at count None is = stays I m
-  read_walk m c file at count (Some s) is = no_entries I m (with_served m file (with_read c at count s)) (k.begins_read m file s c at count is)
+  read_walk : (m : MdsValue) (c : CompoundRun) → W c → (file : FileId) (at count : ℕ) (o : Option ServedFile) → served m file ≡ o → KeepsOp I m (reads_at m c file at count o)
+  read_walk m c its file at count None is = stays I m
+  read_walk m c its file at count (Some s) is = no_entries I m (with_served m file (with_read c at count s)) (k.begins_read m file s c at count its is)
 
-  pub reads : (m : MdsValue) (c : CompoundRun) (args : Value read4_args) → KeepsOp I m (runs_read m c args)
-  reads m c (stateid, (offset, count)) = refused I Heard k m c 25 _ _ (read_walk m c (current_file c) offset (read_length count) (served m (current_file c)) refl)
+  pub reads : (m : MdsValue) (c : CompoundRun) (args : Value read4_args) → W c → KeepsOp I m (runs_read m c args)
+  reads m c (stateid, (offset, count)) its = refused I Heard W k m c 25 _ _ (read_walk m c its (current_file c) offset (read_length count) (served m (current_file c)) refl)
 
-  write_begun : (m : MdsValue) (c : CompoundRun) (file : FileId) (at : ℕ) (bytes : List ℕ) → (o : Option ServedFile) → served m file ≡ o → ((s : ServedFile) → o ≡ Some s → CanBegin m s at bytes)
+  write_begun : (m : MdsValue) (c : CompoundRun) → W c → (file : FileId) (at : ℕ) (bytes : List ℕ) → (o : Option ServedFile) → served m file ≡ o → ((s : ServedFile) → o ≡ Some s → CanBegin m s at bytes)
       → Enters I m (writes_at (input_at m file (OwnWrite at bytes) o).mds c file at bytes (served (input_at m file (OwnWrite at bytes) o).mds file)) (input_at m file (OwnWrite at bytes) o).entries
-  write_begun m c file at bytes None is can = subst (λ (o : Option ServedFile). Enters I m (writes_at m c file at bytes o) []) (sym is) (stays I m)
-  write_begun m c file at bytes (Some s) is can =
+  write_begun m c its file at bytes None is can = subst (λ (o : Option ServedFile). Enters I m (writes_at m c file at bytes o) []) (sym is) (stays I m)
+  write_begun m c its file at bytes (Some s) is can =
       let step : FileStep = phase file s.file (OwnWrite at bytes) m.fresh in
       let x : MdsStep = file_stepped m file s step in
       cond_both (has_fresh m.fresh) x (sends_none m) (λ (y : MdsStep). Enters I m (writes_at y.mds c file at bytes (served y.mds file)) y.entries)
       (λ fresh.
-      subst (λ (o : Option ServedFile). Enters I m (writes_at x.mds c file at bytes o) x.entries) (sym (stepped_there m file s step is)) (k.begins_write m file s c at bytes is (can s refl) fresh))
+      subst (λ (o : Option ServedFile). Enters I m (writes_at x.mds c file at bytes o) x.entries) (sym (stepped_there m file s step is)) (k.begins_write m file s c at bytes its is (can s refl) fresh))
       (λ spent.
-      subst (λ (o : Option ServedFile). Enters I m (writes_at m c file at bytes o) []) (sym is) (no_entries I m (with_served m file (with_write c at bytes s)) (k.begins_alone m file s c at bytes is (can s refl) spent)))
+      subst (λ (o : Option ServedFile). Enters I m (writes_at m c file at bytes o) []) (sym is) (no_entries I m (with_served m file (with_write c at bytes s)) (k.begins_alone m file s c at bytes its is (can s refl) spent)))
 
-  write_walk : (m : MdsValue) (c : CompoundRun) (args : Value write4_args) → refusal (write_order c.current (write_ask m c args)) ≡ None → KeepsOp I m (writes_file m c args)
-  write_walk m c (stateid, (offset, (stable, []))) so = stays I m
-  write_walk m c (stateid, (offset, (stable, (b ∷ bytes)))) so =
-      write_begun m c (current_file c) offset (b ∷ bytes) (served m (current_file c)) refl
+  write_walk : (m : MdsValue) (c : CompoundRun) → W c → (args : Value write4_args) → refusal (write_order c.current (write_ask m c args)) ≡ None → KeepsOp I m (writes_file m c args)
+  write_walk m c its (stateid, (offset, (stable, []))) so = stays I m
+  write_walk m c its (stateid, (offset, (stable, (b ∷ bytes)))) so =
+      write_begun m c its (current_file c) offset (b ∷ bytes) (served m (current_file c)) refl
       (λ s at. let_begin m c s (write_ask m c (stateid, (offset, (stable, (b ∷ bytes))))) offset (b ∷ bytes) refl refl refl (ap phase_or_free at) (omega arith) so)
 
-  pub writes : (m : MdsValue) (c : CompoundRun) (now : ℕ) (args : Value write4_args) → KeepsOp I m (runs_write m c now args)
-  writes m c now args = by_status (refusal (write_order c.current (write_ask m c args))) refl
+  pub writes : (m : MdsValue) (c : CompoundRun) (now : ℕ) (args : Value write4_args) → W c → KeepsOp I m (runs_write m c now args)
+  writes m c now args its = by_status (refusal (write_order c.current (write_ask m c args))) refl
     where
       by_status : (status : Option Stat4) → refusal (write_order c.current (write_ask m c args)) ≡ status → KeepsOp I m (write_refused m c now args status)
       by_status status so =
           cond_both (is_delay status) (ends_by (asks_back m (current_file c) now) c 38 stat.Delay) (refused_or m c 38 status (writes_file m c args)) (λ (x : OpStep). KeepsOp I m x)
-          (λ is. (asks I Heard k m (current_file c) now).enters) (λ off. unless_refused I Heard k m c 38 status (writes_file m c args) (λ none. write_walk m c args (so ∙ none)))
+          (λ is. (asks I Heard W k m (current_file c) now).enters) (λ off. unless_refused I Heard W k m c 38 status (writes_file m c args) (λ none. write_walk m c its args (so ∙ none)))
 
   -- ---- layouts
 
@@ -251,7 +250,7 @@ module _ (I : MdsValue → List Entry → List MdsSend → Type 0) (Heard : Hear
   later_walk m c now None = stays I m
   later_walk m c now (Some p) =
       let s : MdsStep = asks_back m (current_file c) now in
-      enters_then I m m s.mds (entry.Later (current_file c) p ∷ []) s.entries (k.later m (current_file c) p) (asks I Heard k m (current_file c) now).enters
+      enters_then I m m s.mds (entry.Later (current_file c) p ∷ []) s.entries (k.later m (current_file c) p) (asks I Heard W k m (current_file c) now).enters
 
   pub layout_gets : (m : MdsValue) (c : CompoundRun) (now : ℕ) (args : Value layoutget4_args) → KeepsOp I m (runs_layout_get m c now args)
   layout_gets m c now args = by_status (refusal (layout_get_order c.current (layout_asked args) (layout_found m c (layout_asked args)))) refl
@@ -261,39 +260,39 @@ module _ (I : MdsValue → List Entry → List MdsSend → Type 0) (Heard : Hear
           cond_both (is_try_later status) (later_by m c now (phase_behind (layout_found m c (layout_asked args)).fault)) (refused_or m c 50 status (grants_to m c (current_file c) (is_granted (served m (current_file c))) (confirmed_node m (client_of c)))) (λ (x : OpStep). KeepsOp I m x)
           (λ is. later_walk m c now (phase_behind (layout_found m c (layout_asked args)).fault))
           (λ off.
-          unless_refused I Heard k m c 50 status (grants_to m c (current_file c) (is_granted (served m (current_file c))) (confirmed_node m (client_of c)))
+          unless_refused I Heard W k m c 50 status (grants_to m c (current_file c) (is_granted (served m (current_file c))) (confirmed_node m (client_of c)))
           (λ none.
           grants_walk m c (current_file c) (is_granted (served m (current_file c))) (λ granted s at. again_holds m c (layout_asked args) (so ∙ none) s at granted) (λ free s at. new_free m c (layout_asked args) (so ∙ none) s at free)
           (confirmed_node m (client_of c)) refl))
 
-  return_walk : (m : MdsValue) (c : CompoundRun) (file : FileId) (errors : List (Value ff_ioerr4)) (o : Option ServedFile) → served m file ≡ o → KeepsOp I m (return_by m c file errors o)
-  return_walk m c file errors None is = stays I m
-  return_walk m c file errors (Some s) is =
-      (takes_by I Heard k m file (Returns (client_number (holder_of s.file.layout.phase)) s.file.layout.cred (report_of errors s.file.layout.live))
+  return_walk : TakesReturns I → (m : MdsValue) (c : CompoundRun) (file : FileId) (errors : List (Value ff_ioerr4)) (o : Option ServedFile) → served m file ≡ o → KeepsOp I m (return_by m c file errors o)
+  return_walk may m c file errors None is = stays I m
+  return_walk may m c file errors (Some s) is =
+      (takes_by I Heard W k m file (Returns (client_number (holder_of s.file.layout.phase)) s.file.layout.cred (report_of errors s.file.layout.live))
       (λ t there.
-      subst (λ (x : ServedFile). TakesInput I m file t (Returns (client_number (holder_of x.file.layout.phase)) x.file.layout.cred (report_of errors x.file.layout.live))) (same_Some t s (sym there ∙ is)) (k.returns m file t errors) there)).enters
+      subst (λ (x : ServedFile). TakesInput I m file t (Returns (client_number (holder_of x.file.layout.phase)) x.file.layout.cred (report_of errors x.file.layout.live))) (same_Some t s (sym there ∙ is)) (may m file t errors) there)).enters
 
-  returns_walk : (m : MdsValue) (c : CompoundRun) (o : Option (List (Value ff_ioerr4))) → KeepsOp I m (returns_file m c o)
-  returns_walk m c None = stays I m
-  returns_walk m c (Some errors) = return_walk m c (current_file c) errors (served m (current_file c)) refl
+  returns_walk : TakesReturns I → (m : MdsValue) (c : CompoundRun) (o : Option (List (Value ff_ioerr4))) → KeepsOp I m (returns_file m c o)
+  returns_walk may m c None = stays I m
+  returns_walk may m c (Some errors) = return_walk may m c (current_file c) errors (served m (current_file c)) refl
 
-  file_walk : (m : MdsValue) (c : CompoundRun) (reclaim : Bool) (layout_type : ℕ) (args : Value layoutreturn_file4) → KeepsOp I m (file_return m c reclaim layout_type args)
-  file_walk m c reclaim layout_type (offset, (length, (stateid, body))) = refused I Heard k m c 51 _ _ (returns_walk m c (errors_of body))
+  file_walk : TakesReturns I → (m : MdsValue) (c : CompoundRun) (reclaim : Bool) (layout_type : ℕ) (args : Value layoutreturn_file4) → KeepsOp I m (file_return m c reclaim layout_type args)
+  file_walk may m c reclaim layout_type (offset, (length, (stateid, body))) = refused I Heard W k m c 51 _ _ (returns_walk may m c (errors_of body))
 
   all_walk : (m : MdsValue) (c : CompoundRun) (reclaim : Bool) (layout_type : ℕ) → KeepsOp I m (returns_all m c reclaim layout_type)
   all_walk m c reclaim layout_type =
-      refused I Heard k m c 51 (refusal (layout_return_all_order layout_type reclaim)) (goes_with (ends_periods m (client_of c) ReturnedAll) (with_result c no_stateid)) (periods I Heard k m (client_of c) ReturnedAll).enters
+      refused I Heard W k m c 51 (refusal (layout_return_all_order layout_type reclaim)) (goes_with (ends_periods m (client_of c) ReturnedAll) (with_result c no_stateid)) (periods I Heard W k m (client_of c) ReturnedAll).enters
 
-  pub layout_returns : (m : MdsValue) (c : CompoundRun) (args : Value layoutreturn4_args) → KeepsOp I m (runs_layout_return m c args)
-  layout_returns m c (reclaim, (layout_type, (iomode, kind))) =
+  pub layout_returns : (m : MdsValue) (c : CompoundRun) (args : Value layoutreturn4_args) → TakesReturns I → KeepsOp I m (runs_layout_return m c args)
+  layout_returns m c (reclaim, (layout_type, (iomode, kind))) may =
       of_each_arm layoutreturn4
       (λ (v : Value layoutreturn4).
       KeepsOp I m (by_arm layoutreturn4 ((λ file. file_return m c reclaim layout_type file), ((λ fsid. returns_all m c reclaim layout_type), ((λ all. returns_all m c reclaim layout_type), tt))) v))
-      ((λ file. file_walk m c reclaim layout_type file), ((λ fsid. all_walk m c reclaim layout_type), ((λ all. all_walk m c reclaim layout_type), tt))) kind
+      ((λ file. file_walk may m c reclaim layout_type file), ((λ fsid. all_walk m c reclaim layout_type), ((λ all. all_walk m c reclaim layout_type), tt))) kind
 
   pub layout_commits : (m : MdsValue) (c : CompoundRun) (args : Value layoutcommit4_args) → KeepsOp I m (runs_layout_commit m c args)
   layout_commits m c (offset, (length, (reclaim, (stateid, rest)))) =
-      refused I Heard k m c 49 (refusal (layout_commit_order c.current (named_in m c (stateid_in stateid)))) (gives m c (arm 49 resop4 (inl None))) (stays I m)
+      refused I Heard W k m c 49 (refusal (layout_commit_order c.current (named_in m c (stateid_in stateid)))) (gives m c (arm 49 resop4 (inl None))) (stays I m)
 
   pub device_infos : (m : MdsValue) (c : CompoundRun) (args : Value getdeviceinfo4_args) → KeepsOp I m (runs_get_device_info m c args)
   device_infos m c (device, (layout_type, (maxcount, notify))) = by_status (device_from 1 m.servers device) (refusal (device_info_order layout_type (is_some (device_from 1 m.servers device)) maxcount (device_size (device_from 1 m.servers device))))

@@ -1,8 +1,8 @@
 -- What any part of an event can do, each told by what it changes, so that all else is as it was: the one list of cases of a metadata
 -- server's whole rule (RFC 8881, sections 12.5.5, 18.22, 18.32, 18.43, 18.44 and 20.3; RFC 8435, section 2.2).
-use Rattle.std.proofs.Common.{◌≡◌, ◌≤◌, ◌<◌, ℕ, ◌+◌, Bool, true, false, List, [], ◌∷◌, ◌++◌, length, Some, None, filter}
+use Rattle.std.proofs.Common.{◌≡◌, ◌≤◌, ◌<◌, ℕ, ◌+◌, ◌⊎◌, Bool, true, false, List, [], ◌∷◌, ◌++◌, length, Option, Some, None, filter}
 use Rattle.cluster_model.specs.declared.phase.Phase.{Phase}
-use Rattle.std.specs.Prelude.{is_some, position, slice_get, slice_set}
+use Rattle.std.specs.Prelude.{is_some, position, slice_get, slice_set, ◌==◌, ◌||◌}
 use Rattle.std.specs.List.{find}
 use Rattle.rpc_record.specs.Replies.{RpcReply, reply_bytes}
 use Rattle.cluster_model.specs.declared.limits.TheConstants.{MAX_FILE, PIECE_SIZE}
@@ -25,30 +25,31 @@ use Rattle.mirror_writer.specs.Writers.{WriterSends}
 use Rattle.mirror_writer.specs.Writers as writer
 use Rattle.nfs4_session.specs.Clients.{SessionState}
 use Rattle.nfs4_session.specs.Bindings.{back_call}
-use Rattle.nfs4_session.specs.TableLaw.{TableMove}
+use Rattle.nfs4_session.specs.TableLaw.{TableMove, ExchangeId, CreateSession, BeginRequest, FinishRequest, Bind, CallBack, DestroySession, DestroyClient, Expire, table_after}
+use Rattle.nfs4_types.specs.declared.ids.SessionId.{SessionId}
 use Rattle.nfs4_types.specs.Stateids.{layout_stateid_of}
 use Rattle.recall.specs.Recalls.{RecallSends, next_sent, is_under_way, new_recall, with_recall, out_at, after_reply, after_timeout, after_tick}
 use Rattle.open_state.specs.Opens.{opened, closed}
-use Rattle.mds_rule.specs.MdsStates.{CompoundRun, WaitingRead, WaitingWrite, ServedFile, MdsSend, CallsServer, CallsBack, Replies, Answers, AwaitedCall, MdsValue, is_call_to, without_call, served, with_served, with_size, confirmed_node}
+use Rattle.mds_rule.specs.MdsStates.{CompoundRun, WaitingRead, WaitingWrite, ServedFile, MdsSend, CallsServer, CallsBack, Replies, Answers, AwaitedCall, MdsValue, is_call_to, without_call, served, with_served, with_size, confirmed_node, MdsStep}
 use Rattle.mds_rule.specs.declared.waiter.Waiter.{Waiter}
 use Rattle.mds_rule.specs.declared.waiter.Waiter.TheVariants.{ForFile, ForRead, ForWrite, ForRecall}
 use Rattle.mds_rule.specs.ServedFiles.{has_fresh, file_behind, file_stepped, forgotten}
 use Rattle.mds_rule.specs.SessionOps.{confirms}
-use Rattle.mds_rule.specs.FileOps.{with_new_file, may_make, with_read, with_write}
+use Rattle.mds_rule.specs.FileOps.{with_new_file, may_make, with_read, with_write, write_result}
 use Rattle.mds_rule.specs.LayoutOps.{with_holder, client_number}
-use Rattle.mds_rule.specs.Answers.{server_number, is_read_out, is_writer_out, is_awaited, fileid_of, attributes_shown, own_answer, failures_by_place, failed_entries, without_read, write_stepped, recall_end}
+use Rattle.mds_rule.specs.Answers.{resumes, is_done_as, has_failed_as, read_result, server_number, is_read_out, is_writer_out, is_awaited, fileid_of, attributes_shown, own_answer, failures_by_place, failed_entries, without_read, write_stepped, recall_end}
 use Rattle.mds_rule.specs.Goes.{xid_after, calls_as, calls_server, has_xids, stateid_seqid}
-use Rattle.nfs4_session.specs.TableLaw.{ExchangeId, CreateSession, BeginRequest, FinishRequest, Bind, CallBack, DestroySession, DestroyClient, Expire, table_after}
 use Rattle.nfs4_types.specs.declared.sequence.Sequence.{Sequence}
 use Rattle.ds_calls.specs.GivenReplies.{reply_of_call}
 use Rattle.mds_receive.specs.MdsReceive.{IsReply, incoming_of}
-use Rattle.mds_rule.specs.MdsStates.{MdsStep}
-use Rattle.mds_laws.specs.MdsRuns.{MdsInput, Hears, IsTimedOut, Ticks as IsTick, RecallsFile, Resilvers}
+use Rattle.mds_walk.specs.MdsRuns.{MdsInput, Hears, IsTimedOut, Ticks as IsTick, RecallsFile, Resilvers}
 use Rattle.mds_walk.specs.CallTables.{IsSentFor}
 use Rattle.cluster_model.specs.Phases.{holder_of}
 use Rattle.layout_report.specs.Reports.{report_of}
 use Rattle.ff_layout.specs.IoError.{ff_ioerr4}
-use Rattle.ff_xdr.specs.Form.{Value}
+use Rattle.ff_xdr.specs.Form.{Value, arm_of}
+use Rattle.mds_parts.specs.MdsResults.{in_arm}
+use Rattle.nfs4_compound.specs.Args.{argop4}
 use Rattle.compound_reply.specs.Replied.{success_reply}
 use Rattle.nfs4_session.specs.declared.begin.SlotPass.{SlotPass}
 
@@ -88,6 +89,29 @@ IsNoTurn (CallBack client) = Unit {0}
 IsNoTurn (DestroySession session) = Unit {0}
 IsNoTurn (DestroyClient client) = Unit {0}
 IsNoTurn (Expire now) = Unit {0}
+
+-- one that destroys no session either
+abbrev pub IsPlainMove : TableMove → Type 0
+IsPlainMove (BeginRequest request now) = ⊥
+IsPlainMove (DestroySession session) = ⊥
+IsPlainMove (ExchangeId verifier owner now) = Unit {0}
+IsPlainMove (CreateSession client sequence program node now) = Unit {0}
+IsPlainMove (FinishRequest pass reply) = ⊥
+IsPlainMove (Bind session node) = Unit {0}
+IsPlainMove (CallBack client) = Unit {0}
+IsPlainMove (DestroyClient client) = Unit {0}
+IsPlainMove (Expire now) = Unit {0}
+
+pub plain_no_turn : (move : TableMove) → IsPlainMove move → IsNoTurn move
+plain_no_turn (BeginRequest request now) is = is
+plain_no_turn (FinishRequest pass reply) is = is
+plain_no_turn (DestroySession session) is = tt
+plain_no_turn (ExchangeId verifier owner now) is = tt
+plain_no_turn (CreateSession client sequence program node now) is = tt
+plain_no_turn (Bind session node) is = tt
+plain_no_turn (CallBack client) is = tt
+plain_no_turn (DestroyClient client) is = tt
+plain_no_turn (Expire now) is = tt
 
 abbrev pub moved : MdsValue → TableMove → MdsValue
 moved m move = record m { sessions = table_after m.sessions move }
@@ -162,27 +186,38 @@ pub record IsHeard (m : MdsValue) (node : NodeId) (xid : ℕ) (call : AwaitedCal
 abbrev pub heard_by : NodeId → ℕ → MdsValue → MdsValue
 heard_by node xid m = record m { calls = without_call node xid m.calls }
 
+-- ---- the compounds that wait for a file
+
+-- each of them is so
+pub record AllWait (W : CompoundRun → Type 0) (reads : List WaitingRead) (write : Option WaitingWrite) : Type 0 where
+  pub reads_so : (r : WaitingRead) → IsOneOf r reads → W r.compound
+  pub write_so : (w : WaitingWrite) → write ≡ Some w → W w.compound
+
+-- any compound
+abbrev pub AnyCompound : CompoundRun → Type 0
+AnyCompound c = Unit {0}
+
+pub any_wait : (reads : List WaitingRead) (write : Option WaitingWrite) → AllWait AnyCompound reads write
+any_wait reads write = record { reads_so = λ r inside. tt; write_so = λ w is. tt }
+
 -- ---- what the taking of an event does: the calls that were sent, and the number of the next one, are as they were
 
-pub record Parts (I : MdsValue → List Entry → List MdsSend → Type 0) (Heard : HeardOf) : Type 0 where
-  -- Clients: one opens a file, or closes it; one is confirmed from a node, has reclaimed all, or is gone.
+-- `W` is what is known of a compound that waits.
+pub record Parts (I : MdsValue → List Entry → List MdsSend → Type 0) (Heard : HeardOf) (W : CompoundRun → Type 0) : Type 0 where
+  -- the compounds that wait are so
+  pub wait : (m : MdsValue) (es : List Entry) (ss : List MdsSend) → I m es ss → (file : FileId) (s : ServedFile) → served m file ≡ Some s → AllWait W s.reads s.write
+  -- Clients: one opens a file, or closes it; one has reclaimed all, or is gone.
   pub opens : (m : MdsValue) (client : ℕ) (file : FileId) → Becomes I m (record m { opens = opened m.opens client file })
   pub closes : (m : MdsValue) (client : ℕ) (file : FileId) → Becomes I m (record m { opens = closed m.opens client file })
-  pub confirmed : (m : MdsValue) (client : ℕ) (node : NodeId) → Becomes I m (confirms client node m)
   pub reclaims : (m : MdsValue) (client : ℕ) → Becomes I m (record m { reclaimed = m.reclaimed ++ client ∷ [] })
   pub gone : (m : MdsValue) (client : ℕ) → Becomes I m (forgotten client m)
-  -- the table of clients changes, by a call of its own; a request of a slot ends with its reply
-  pub tables : (m : MdsValue) (move : TableMove) → IsNoTurn move → Becomes I m (moved m move)
-  pub finishes : (m : MdsValue) (pass : SlotPass) (bytes : List ℕ) → Becomes I m (moved m (FinishRequest pass bytes))
+  -- the table of clients changes, by a call of its own
+  pub tables : (m : MdsValue) (move : TableMove) → IsPlainMove move → Becomes I m (moved m move)
   -- Recalls: a new one, of a file that a client holds; a timeout of a callback; time passes.
   pub asks_recall : (m : MdsValue) (file : FileId) (s : ServedFile) (n : ℕ) (recalled : Bool) (client now : ℕ) → served m file ≡ Some s → s.file.layout.phase ≡ Held (Client n) recalled → is_under_way file s.file.layout.cred m.recalls ≡ false
       → Becomes I m (record m { recalls = with_recall (new_recall file s.file.layout.cred client now) m.recalls })
   pub times_recall : (m : MdsValue) (xid : ℕ) → is_some (out_at m.recalls xid) ≡ true → Becomes I m (record m { recalls = (after_timeout m.recalls xid).recalls })
   pub ticks_recalls : (m : MdsValue) (now : ℕ) → Becomes I m (record m { recalls = (after_tick m.recalls now).recalls })
-  -- a compound is replied to
-  pub replies : (m : MdsValue) (node : NodeId) (xid : ℕ) (bytes : List ℕ) (es : List Entry) (ss : List MdsSend) → I m es ss → I m es (ss ++ Replies node (success_reply xid bytes) ∷ [])
-  -- what is answered at once is answered by a reply
-  pub answers : (m : MdsValue) (node : NodeId) (bytes : List ℕ) (reply : RpcReply) → bytes ≡ reply_bytes reply → (es : List Entry) (ss : List MdsSend) → I m es ss → I m es (ss ++ Answers node bytes ∷ [])
   -- a LAYOUTGET is told to come again
   pub later : (m : MdsValue) (file : FileId) (p : Phase) → Enters I m m (entry.Later file p ∷ [])
   -- a size is seen at a mirror
@@ -196,25 +231,23 @@ pub record Parts (I : MdsValue → List Entry → List MdsSend → Type 0) (Hear
       (phase file s.file (AsksLayout n) m.fresh).entries
   pub grants_alone : (m : MdsValue) (file : FileId) (s : ServedFile) (client n : ℕ) → confirmed_node m client ≡ Some (Client n) → served m file ≡ Some s → s.file.layout.phase ≡ Free → are_spent m.fresh ≡ false → has_fresh m.fresh ≡ false
       → Becomes I m (with_served m file (with_holder client false s))
-  -- other inputs of the table of phases: unasked; a LAYOUTRETURN; a timeout; what an answer to an own write shows
+  -- other inputs of the table of phases: unasked; a timeout; what an answer to an own write shows
   pub inputs : (m : MdsValue) (file : FileId) (s : ServedFile) (input : FileInput) → comes_unasked input ≡ true → TakesInput I m file s input
-  pub returns : (m : MdsValue) (file : FileId) (s : ServedFile) (errors : List (Value ff_ioerr4))
-      → TakesInput I m file s (Returns (client_number (holder_of s.file.layout.phase)) s.file.layout.cred (report_of errors s.file.layout.live))
   pub timeouts : (m : MdsValue) (file : FileId) (s : ServedFile) (node : NodeId) (xid : ℕ) → is_outstanding s.file (server_number node) xid ≡ true → TakesInput I m file s (TimesOut xid)
   pub learns : (m : MdsValue) (file : FileId) (s : ServedFile) (call : AwaitedCall) (server own uid : ℕ) (c : DsCallValue) (replies : DsCallValue → DsReplyValue) (fileid : ℕ) (shown : Shown) → Heard call replies
       → call.caller ≡ ForWrite file → call.sent ≡ CallsServer server own uid c → fileid_of c (replies c) ≡ Some fileid → attributes_shown (replies c) ≡ Some shown
       → TakesInput I m file s (Sees (record { server = server; fileid = fileid }) shown.seen)
   -- A READ begins. A timeout of its call leaves it waiting, or ends it.
-  pub begins_read : (m : MdsValue) (file : FileId) (s : ServedFile) (c : CompoundRun) (at count : ℕ) → served m file ≡ Some s → Becomes I m (with_served m file (with_read c at count s))
+  pub begins_read : (m : MdsValue) (file : FileId) (s : ServedFile) (c : CompoundRun) (at count : ℕ) → W c → served m file ≡ Some s → Becomes I m (with_served m file (with_read c at count s))
   pub times_read : (m : MdsValue) (file : FileId) (s : ServedFile) (xid place : ℕ) (r : WaitingRead) → IsReadAt m file s xid place r → (read.after_timeout r.read xid).end ≡ None
       → Enters I m (with_served m file (with_read_at s place r (read.after_timeout r.read xid).read)) (failed_entries r.read (read.after_timeout r.read xid).read)
   pub loses_read : (m : MdsValue) (file : FileId) (s : ServedFile) (xid place : ℕ) (r : WaitingRead) (e : ReadEnd) → IsReadAt m file s xid place r → (read.after_timeout r.read xid).end ≡ Some e
       → Enters I m (without_read m file s place) (failed_entries r.read (read.after_timeout r.read xid).read ++ end_entry file e ∷ [])
   -- An own write begins: the file takes it, and the write waits. Where nothing can be drawn it waits alone.
-  pub begins_write : (m : MdsValue) (file : FileId) (s : ServedFile) (c : CompoundRun) (at : ℕ) (bytes : List ℕ) → served m file ≡ Some s → CanBegin m s at bytes → has_fresh m.fresh ≡ true
+  pub begins_write : (m : MdsValue) (file : FileId) (s : ServedFile) (c : CompoundRun) (at : ℕ) (bytes : List ℕ) → W c → served m file ≡ Some s → CanBegin m s at bytes → has_fresh m.fresh ≡ true
       → Enters I m (with_served (file_stepped m file s (phase file s.file (OwnWrite at bytes) m.fresh)).mds file (with_write c at bytes (file_behind s (phase file s.file (OwnWrite at bytes) m.fresh))))
       (phase file s.file (OwnWrite at bytes) m.fresh).entries
-  pub begins_alone : (m : MdsValue) (file : FileId) (s : ServedFile) (c : CompoundRun) (at : ℕ) (bytes : List ℕ) → served m file ≡ Some s → CanBegin m s at bytes → has_fresh m.fresh ≡ false
+  pub begins_alone : (m : MdsValue) (file : FileId) (s : ServedFile) (c : CompoundRun) (at : ℕ) (bytes : List ℕ) → W c → served m file ≡ Some s → CanBegin m s at bytes → has_fresh m.fresh ≡ false
       → Becomes I m (with_served m file (with_write c at bytes s))
   -- a timeout of a call of it comes
   pub times_write : (m : MdsValue) (file : FileId) (s : ServedFile) (w : WaitingWrite) (xid : ℕ) → served m file ≡ Some s → s.write ≡ Some w → is_writer_out xid s.write ≡ true
@@ -227,11 +260,61 @@ pub record Parts (I : MdsValue → List Entry → List MdsSend → Type 0) (Hear
   -- a new file
   pub makes : (m : MdsValue) (name : List ℕ) → may_make m ≡ true → Becomes I m (with_new_file m name)
 
+-- ---- where compounds are run
+
+-- a LAYOUTRETURN is an input of the table of phases
+abbrev pub TakesReturns : (MdsValue → List Entry → List MdsSend → Type 0) → Type 0
+TakesReturns I =
+    (m : MdsValue) (file : FileId) (s : ServedFile) (errors : List (Value ff_ioerr4))
+    → TakesInput I m file s (Returns (client_number (holder_of s.file.layout.phase)) s.file.layout.cred (report_of errors s.file.layout.live))
+
+pub record RunParts (I : MdsValue → List Entry → List MdsSend → Type 0) : Type 0 where
+  -- a client is confirmed from a node; a session is destroyed
+  pub confirmed : (m : MdsValue) (client : ℕ) (node : NodeId) → Becomes I m (confirms client node m)
+  pub destroys : (m : MdsValue) (session : SessionId) → Becomes I m (moved m (DestroySession session))
+  -- a LAYOUTRETURN comes
+  pub returns : TakesReturns I
+  -- a compound is replied to, and the request of its slot ends with the reply
+  pub replies : (m : MdsValue) (node : NodeId) (xid : ℕ) (bytes : List ℕ) (es : List Entry) (ss : List MdsSend) → I m es ss → I m es (ss ++ Replies node (success_reply xid bytes) ∷ [])
+  pub finishes : (m : MdsValue) (pass : SlotPass) (bytes : List ℕ) → Becomes I m (moved m (FinishRequest pass bytes))
+
+-- the operations that wait for data servers: READ and WRITE
+abbrev pub is_waiting_op : ℕ → Bool
+is_waiting_op number = (number == 25) || (number == 38)
+
+-- the client of a CREATE_SESSION
+abbrev pub created_in : Value argop4 → Option ℕ
+created_in op = in_arm 43 argop4 (λ args. Some args.0) None op
+
+-- What one operation of a compound needs besides `Parts`: of a READ and a WRITE, that the compound may wait; of a LAYOUTRETURN, a
+-- CREATE_SESSION and a DESTROY_SESSION, their own cases.
+pub record OpNeeds (I : MdsValue → List Entry → List MdsSend → Type 0) (W : CompoundRun → Type 0) (c : CompoundRun) (op : Value argop4) : Type 0 where
+  pub waits : is_waiting_op (arm_of argop4 op) ≡ true → W c
+  pub returns : (arm_of argop4 op == 51) ≡ true → TakesReturns I
+  pub confirms : (client : ℕ) → created_in op ≡ Some client → (m : MdsValue) → Becomes I m (confirms client c.node m)
+  pub destroys : (arm_of argop4 op == 44) ≡ true → (m : MdsValue) (session : SessionId) → Becomes I m (moved m (DestroySession session))
+
+-- what is answered at once is answered by a reply
+abbrev pub GivesAnswers : (MdsValue → List Entry → List MdsSend → Type 0) → Type 0
+GivesAnswers I = (m : MdsValue) (node : NodeId) (bytes : List ℕ) (reply : RpcReply) → bytes ≡ reply_bytes reply → (es : List Entry) (ss : List MdsSend) → I m es ss → I m es (ss ++ Answers node bytes ∷ [])
+
+-- How a compound that waited goes on, where it is so: a READ has bytes or has failed, and a WRITE is done or has failed.
+pub record Resumes (I : MdsValue → List Entry → List MdsSend → Type 0) (W : CompoundRun → Type 0) : Type 0 where
+  pub has_read : (now : ℕ) (m : MdsValue) (c : CompoundRun) (eof : Bool) (bytes : List ℕ) → length bytes ≤ 4294967295 → W c → Keeps I m (resumes now (is_done_as m c (read_result eof bytes)) c.ops)
+  pub has_written : (now : ℕ) (m : MdsValue) (c : CompoundRun) (count : ℕ) → W c → Keeps I m (resumes now (is_done_as m c (write_result count)) c.ops)
+  pub read_failed : (now : ℕ) (m : MdsValue) (c : CompoundRun) → W c → Keeps I m (resumes now (has_failed_as m c 25) c.ops)
+  pub write_failed : (now : ℕ) (m : MdsValue) (c : CompoundRun) → W c → Keeps I m (resumes now (has_failed_as m c 38) c.ops)
+
 -- ---- what becomes of the calls
 
+-- A call that is for a waiter of another kind: where it is answered it leaves the table, and an answer to a callback may end a recall.
+pub record HearsOdd (I : MdsValue → List Entry → List MdsSend → Type 0) : Type 0 where
+  pub leaves : (m : MdsValue) (node : NodeId) (xid : ℕ) → Becomes I m (heard_by node xid m)
+  pub recalled : (m : MdsValue) (node : NodeId) (xid status : ℕ) → Becomes I m (record (heard_by node xid m) { recalls = (after_reply m.recalls xid (recall_end status)).recalls })
+
 pub record Calls (I : MdsValue → List Entry → List MdsSend → Type 0) (Heard : HeardOf) : Type 0 where
-  -- each of them is for a waiter of its kind
-  pub fits : (m : MdsValue) (es : List Entry) (ss : List MdsSend) → I m es ss → (call : AwaitedCall) → IsOneOf call m.calls → IsSentFor call.sent call.caller
+  -- each of them is for a waiter of its kind, or it is known what becomes of one that is not
+  pub fits : (m : MdsValue) (es : List Entry) (ss : List MdsSend) → I m es ss → (call : AwaitedCall) → IsOneOf call m.calls → IsSentFor call.sent call.caller ⊎ HearsOdd I
   -- a file's call is answered, and the file takes the answer; where nothing can be drawn nothing comes of it
   pub hears : (m : MdsValue) (node : NodeId) (xid : ℕ) (file : FileId) (s : ServedFile) (call : AwaitedCall) (c : DsCallValue) (replies : DsCallValue → DsReplyValue) → Heard call replies → IsHeard m node xid call (ForFile file) c
       → served m file ≡ Some s → is_outstanding s.file (server_number call.node) call.xid ≡ true → has_fresh m.fresh ≡ true
@@ -256,7 +339,14 @@ pub record Calls (I : MdsValue → List Entry → List MdsSend → Type 0) (Hear
   pub leaves : (m : MdsValue) (node : NodeId) (xid : ℕ) (call : AwaitedCall) → IsOneOf call m.calls → is_call_to node xid call ≡ true → is_awaited m call ≡ false → Becomes I m (heard_by node xid m)
   -- those that nobody awaits are forgotten
   pub forgets : (m : MdsValue) → Becomes I m (record m { calls = filter (is_awaited m) m.calls })
-  -- a call goes out
+  -- A call that is awaited times out. Where it is awaited still its record goes again.
+  pub late : (m : MdsValue) (call : AwaitedCall) → IsOneOf call m.calls → is_awaited m call ≡ true → Enters I m m (entry.TimedOut Mds call.xid ∷ [])
+  pub again : (m : MdsValue) (call : AwaitedCall) → IsOneOf call m.calls → is_awaited m call ≡ true → (es : List Entry) (ss : List MdsSend) → I m es ss → I m es (ss ++ call.sent ∷ [])
+
+-- ---- what goes out
+
+pub record OutParts (I : MdsValue → List Entry → List MdsSend → Type 0) : Type 0 where
+  -- a call goes out; of a callback the table of clients knows
   pub calls_file : (m : MdsValue) (file : FileId) (s : ServedFile) (c : CallOut) → served m file ≡ Some s → has_xids m ≡ true → s.write ≡ None → call_out s.file m.next_xid ≡ Some c
       → Keeps I m (calls_server m file (record s { file = c.file }) (ForFile file) c.server c.uid c.call)
   pub calls_write : (m : MdsValue) (file : FileId) (s : ServedFile) (w : WaitingWrite) (c : WriterSends) → served m file ≡ Some s → has_xids m ≡ true → s.write ≡ Some w → writer.next_sent w.writer m.next_xid ≡ Some c
@@ -269,12 +359,23 @@ pub record Calls (I : MdsValue → List Entry → List MdsSend → Type 0) (Hear
       (CallsBack m.next_xid (back_call sent.call.client session) sent.call.file (layout_stateid_of sent.call.file.0 sent.call.cred.0 (stateid_seqid (served m sent.call.file)))))
   -- the number of a recall whose client has no session is passed over
   pub skips : (m : MdsValue) (sent : RecallSends) → has_xids m ≡ true → next_sent m.recalls m.next_xid ≡ Some sent → Becomes I m (record m { recalls = sent.recalls; next_xid = xid_after m.next_xid })
-  -- A call that is awaited times out. Where it is awaited still its record goes again, and so does that of one that was kept until the tick.
-  pub late : (m : MdsValue) (call : AwaitedCall) → IsOneOf call m.calls → is_awaited m call ≡ true → Enters I m m (entry.TimedOut Mds call.xid ∷ [])
-  pub again : (m : MdsValue) (call : AwaitedCall) → IsOneOf call m.calls → is_awaited m call ≡ true → (es : List Entry) (ss : List MdsSend) → I m es ss → I m es (ss ++ call.sent ∷ [])
+  pub back : (m : MdsValue) (client : ℕ) → Becomes I m (moved m (CallBack client))
+  -- the record of a call that was kept until the tick goes again
   pub repeats : (m : MdsValue) (server xid : ℕ) (call : AwaitedCall) → find (is_call_to (Server server) xid) m.calls ≡ Some call → (es : List Entry) (ss : List MdsSend) → I m es ss → I m es (ss ++ call.sent ∷ [])
 
 -- ---- where a request of a slot begins
 
 abbrev pub KeepsBegin : (MdsValue → List Entry → List MdsSend → Type 0) → Type 0
 KeepsBegin I = (m : MdsValue) (request : Sequence) (now : ℕ) → Becomes I m (moved m (BeginRequest request now))
+
+-- ---- all of what an event does
+
+pub record EventParts (I : MdsValue → List Entry → List MdsSend → Type 0) (Heard : HeardOf) (W : CompoundRun → Type 0) : Type 0 where
+  pub parts : Parts I Heard W
+  pub runs : RunParts I
+  -- any compound may wait
+  pub any : (c : CompoundRun) → W c
+  pub answers : GivesAnswers I
+  pub calls : Calls I Heard
+  pub outs : OutParts I
+  pub begins : KeepsBegin I

@@ -7,9 +7,9 @@ use Rattle.nfs4_types.specs.declared.sequence.Sequence.{Sequence}
 use Rattle.nfs4_session.specs.TableLaw.{TableMove, BeginRequest, Bind}
 use Rattle.table_slots.specs.TableSlots.{table_from}
 use Rattle.mds_receive.specs.MdsReceive.{incoming_of}
-use Rattle.mds_rule.specs.MdsStates.{MdsSend, MdsValue}
-use Rattle.mds_laws.specs.MdsRuns.{MdsInput, Hears, IsTimedOut, Ticks, RecallsFile, Resilvers}
-use Rattle.mds_laws.specs.SlotUses.{request_in}
+use Rattle.mds_rule.specs.MdsStates.{CompoundRun, MdsSend, MdsValue}
+use Rattle.mds_walk.specs.MdsRuns.{MdsInput, Hears, IsTimedOut, Ticks, RecallsFile, Resilvers}
+use Rattle.mds_walk.specs.FirstRequests.{request_in}
 use Rattle.mds_walk.proofs.Parts.{KeepsBegin, Becomes, HeardOf, moved, Parts}
 
 -- its session is bound to the node that it came from, and it begins
@@ -31,7 +31,7 @@ begun_moves now (Resilvers file) = []
 abbrev pub behind_begin : ℕ → MdsInput → MdsValue → MdsValue
 behind_begin now input m = record m { sessions = table_from m.sessions (begun_moves now input) }
 
-module _ (I : MdsValue → List Entry → List MdsSend → Type 0) (Heard : HeardOf) (k : Parts I Heard) (begins : KeepsBegin I) where
+module _ (I : MdsValue → List Entry → List MdsSend → Type 0) (Heard : HeardOf) (W : CompoundRun → Type 0) (k : Parts I Heard W) (begins : KeepsBegin I) where
   -- what is kept from before the request is so behind its calls
   request_kept : (now : ℕ) (m : MdsValue) (from : NodeId) (o : Option Sequence) → Becomes I m (behind_request now m from o)
   request_kept now m from None = λ es ss i. i

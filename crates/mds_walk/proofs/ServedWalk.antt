@@ -39,7 +39,7 @@ use Rattle.mds_rule.specs.MdsStates.{CompoundRun, ServedFile, MdsSend, MdsValue,
 use Rattle.mds_rule.specs.OpSteps.{OpStep, Goes, with_result, refuses, refused_or}
 use Rattle.mds_rule.specs.ServedFiles.{has_fresh, file_behind, file_stepped, input_at, takes_input, with_new_recall, recall_by, recall_at, asks_back, held_from, one_by_one, ends_periods, forgotten, ends_client}
 use Rattle.mds_rule.specs.SessionOps.{with_exchange, runs_exchange, confirms, gone_with, goes_with, with_session, with_create, runs_create, on_session, runs_bind, runs_destroy_session, runs_destroy_client, reclaims}
-use Rattle.mds_walk.proofs.Parts.{Parts, Becomes, HeardOf, TakesInput, comes_unasked}
+use Rattle.mds_walk.proofs.Parts.{Parts, Becomes, HeardOf, TakesInput, comes_unasked, moved}
 use Rattle.mds_walk.proofs.Served.{stepped_there}
 use Rattle.mds_walk.proofs.Keeping.{KeepsOp, Silent, no_entries, stays, enters_then, silent_then, silent_none, silent_same, becomes_silent}
 
@@ -83,7 +83,7 @@ held_still m file s there client =
     record { t = file_behind s step; there = stepped_there m file s step there; same = k.0; node = k.1.0; recalled = k.1.1; held = k.1.2 })
     (λ off. record { t = s; there = there; same = refl; node = client.0; recalled = client.1; held = client.2 }))
 
-module _ (I : MdsValue → List Entry → List MdsSend → Type 0) (Heard : HeardOf) (k : Parts I Heard) where
+module _ (I : MdsValue → List Entry → List MdsSend → Type 0) (Heard : HeardOf) (W : CompoundRun → Type 0) (k : Parts I Heard W) where
   -- ---- one input
 
   input_walk : (m : MdsValue) (file : FileId) (input : FileInput) → ((s : ServedFile) → TakesInput I m file s input) → (o : Option ServedFile) → served m file ≡ o → Silent I m (input_at m file input o)
@@ -173,22 +173,22 @@ module _ (I : MdsValue → List Entry → List MdsSend → Type 0) (Heard : Hear
   gone None m = silent_same I m
   gone (Some client) m = client_ends m client ClientGone
 
-  session_walk : (m : MdsValue) (c : CompoundRun) (client sequence : ℕ) (fore back : Value channel_attrs4) (sessions : SessionsState) (o : Option Created) → Becomes I m (record m { sessions = sessions })
-      → KeepsOp I m (with_session m c client sequence fore back sessions o)
-  session_walk m c client sequence fore back sessions None b = stays I m
-  session_walk m c client sequence fore back sessions (Some created) b =
+  session_walk : (m : MdsValue) (c : CompoundRun) (client sequence : ℕ) → ((x : MdsValue) → Becomes I x (confirms client c.node x)) → (fore back : Value channel_attrs4) (sessions : SessionsState) (o : Option Created)
+      → Becomes I m (record m { sessions = sessions }) → KeepsOp I m (with_session m c client sequence fore back sessions o)
+  session_walk m c client sequence may fore back sessions None b = stays I m
+  session_walk m c client sequence may fore back sessions (Some created) b =
       let x : MdsValue = record m { sessions = sessions } in
       let n : MdsValue = confirms client c.node x in
-      becomes_silent I m n (gone_with created.gone n) (λ es ss i. k.confirmed x client c.node es ss (b es ss i)) (gone created.gone n)
+      becomes_silent I m n (gone_with created.gone n) (λ es ss i. may x es ss (b es ss i)) (gone created.gone n)
 
-  create_walk : (m : MdsValue) (c : CompoundRun) (client sequence : ℕ) (fore back : Value channel_attrs4) (program now : ℕ) (case : CreateSessionCase) (fault : Option SessionFault)
+  create_walk : (m : MdsValue) (c : CompoundRun) (client sequence : ℕ) → ((x : MdsValue) → Becomes I x (confirms client c.node x)) → (fore back : Value channel_attrs4) (program now : ℕ) (case : CreateSessionCase) (fault : Option SessionFault)
       → Becomes I m (record m { sessions = after_creating m.sessions program c.node now case }) → KeepsOp I m (with_create m c client sequence fore back program now case fault)
-  create_walk m c client sequence fore back program now case (Some fault) b = stays I m
-  create_walk m c client sequence fore back program now case None b = session_walk m c client sequence fore back (after_creating m.sessions program c.node now case) (created_answer m.sessions client case) b
+  create_walk m c client sequence may fore back program now case (Some fault) b = stays I m
+  create_walk m c client sequence may fore back program now case None b = session_walk m c client sequence may fore back (after_creating m.sessions program c.node now case) (created_answer m.sessions client case) b
 
-  pub creates : (m : MdsValue) (c : CompoundRun) (now : ℕ) (args : Value create_session4_args) → KeepsOp I m (runs_create m c now args)
-  creates m c now (client, (sequence, (flags, (fore, (back, (program, security)))))) =
-      create_walk m c client sequence fore back program now (create_session_case m.sessions client sequence) (create_session_fault (create_session_case m.sessions client sequence))
+  pub creates : (m : MdsValue) (c : CompoundRun) (now : ℕ) (args : Value create_session4_args) → ((x : MdsValue) → Becomes I x (confirms args.0 c.node x)) → KeepsOp I m (runs_create m c now args)
+  creates m c now (client, (sequence, (flags, (fore, (back, (program, security)))))) may =
+      create_walk m c client sequence may fore back program now (create_session_case m.sessions client sequence) (create_session_fault (create_session_case m.sessions client sequence))
       (k.tables m (CreateSession client sequence program c.node now) tt)
 
   at_session : (m : MdsValue) (c : CompoundRun) (number : ℕ) (session : SessionId) (step : OpStep) → KeepsOp I m step → KeepsOp I m (on_session m c number session step)
@@ -199,9 +199,9 @@ module _ (I : MdsValue → List Entry → List MdsSend → Type 0) (Heard : Hear
   binds m c (session, (direction, rdma)) =
       at_session m c 41 (record { 0 = session }) _ (no_entries I m (record m { sessions = after_binding m.sessions (record { 0 = session }) c.node }) (k.tables m (Bind (record { 0 = session }) c.node) tt))
 
-  pub destroys_session : (m : MdsValue) (c : CompoundRun) (session : List ℕ) → KeepsOp I m (runs_destroy_session m c session)
-  destroys_session m c session =
-      at_session m c 44 (record { 0 = session }) _ (no_entries I m (record m { sessions = without_session m.sessions (record { 0 = session }) }) (k.tables m (DestroySession (record { 0 = session })) tt))
+  pub destroys_session : (m : MdsValue) (c : CompoundRun) (session : List ℕ) → ((x : MdsValue) (id : SessionId) → Becomes I x (moved x (DestroySession id))) → KeepsOp I m (runs_destroy_session m c session)
+  destroys_session m c session may =
+      at_session m c 44 (record { 0 = session }) _ (no_entries I m (record m { sessions = without_session m.sessions (record { 0 = session }) }) (may m (record { 0 = session })))
 
   destroy_walk : (m : MdsValue) (c : CompoundRun) (client : ℕ) (fault : Option Stat4) → Becomes I m (record m { sessions = destroyed_unless m.sessions (without_client m.sessions client) fault })
       → KeepsOp I m (refused_or m c 57 fault (goes_with (ends_client (record m { sessions = without_client m.sessions client }) client ClientGone) (with_result c (arm 57 Rattle.nfs4_compound.specs.Results.resop4 (inl tt)))))

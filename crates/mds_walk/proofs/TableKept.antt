@@ -17,10 +17,9 @@ use Rattle.mds_rule.specs.declared.waiter.Waiter.{Waiter}
 use Rattle.mds_rule.specs.ServedFiles.{is_period_end, file_behind, file_stepped}
 use Rattle.mds_rule.specs.Answers.{is_awaited, own_answer}
 use Rattle.mds_rule.specs.Goes.{xid_after, calls_as, has_xids}
-use Rattle.mds_laws.specs.MdsRuns.{MdsEvent, mds_run}
-use Rattle.mds_walk.specs.CallTables.{IsSentFor}
-use Rattle.mds_walk.proofs.Parts.{HeardAny, heard_by, end_input, without_write, Parts, Calls, KeepsBegin}
-use Rattle.mds_walk.specs.CallTables.{TableStands}
+use Rattle.mds_walk.specs.MdsRuns.{MdsEvent, mds_run}
+use Rattle.mds_walk.specs.CallTables.{IsSentFor, TableStands}
+use Rattle.mds_walk.proofs.Parts.{HeardAny, heard_by, end_input, without_write, Parts, Calls, KeepsBegin, AnyCompound, any_wait, RunParts, GivesAnswers, OutParts, EventParts}
 use Rattle.mds_walk.proofs.Lists.{in_more, in_last, in_with_call, in_filtered}
 use Rattle.mds_walk.proofs.EventWalk.{in_each_run}
 use Rattle.mds_rule.specs.LayoutOps.{client_number}
@@ -92,39 +91,47 @@ stepped_table m file s step es ss t =
     let n : MdsValue = with_served (record m { fresh = drawn m.fresh step }) file (file_behind s step) in
     cond_both (list_any is_period_end step.entries) (record n { recalls = without_file file n.recalls }) n (λ (x : MdsValue). Table x (es ++ step.entries) ss) (λ end. t) (λ other. t)
 
-pub table_parts : Parts Table HeardAny
+pub table_parts : Parts Table HeardAny AnyCompound
 table_parts = record {
+  wait = λ m es ss t file s there. any_wait s.reads s.write;
   opens = λ m client file es ss t. t;
   closes = λ m client file es ss t. t;
-  confirmed = λ m client node es ss t. t;
   reclaims = λ m client es ss t. t;
   gone = λ m client es ss t. t;
   tables = λ m move no es ss t. t;
   asks_recall = λ m file s n recalled client now there held off es ss t. t;
   times_recall = λ m xid out es ss t. t;
   ticks_recalls = λ m now es ss t. t;
-  finishes = λ m pass bytes es ss t. t;
-  replies = λ m node xid bytes es ss t. sends_more m.calls m.next_xid ss _ t;
-  answers = λ m node bytes reply is es ss t. sends_more m.calls m.next_xid ss _ t;
   later = λ m file p es ss t. t;
   sizes = λ m file s server fileid size there es ss t. t;
   gives_again = λ m file s client there its es ss t. t;
   grants = λ m file s client n from there free left fresh es ss t. stepped_table m file s (phase file s.file (AsksLayout n) m.fresh) es ss t;
   grants_alone = λ m file s client n from there free left spent es ss t. t;
   inputs = λ m file s input unasked there fresh es ss t. stepped_table m file s (phase file s.file input m.fresh) es ss t;
-  returns = λ m file s errors there fresh es ss t. stepped_table m file s (phase file s.file (Returns (client_number (holder_of s.file.layout.phase)) s.file.layout.cred (report_of errors s.file.layout.live)) m.fresh) es ss t;
   timeouts = λ m file s node xid out there fresh es ss t. stepped_table m file s (phase file s.file (TimesOut xid) m.fresh) es ss t;
   learns = λ m file s call server own uid c replies fileid shown heard caller sent named shows there fresh es ss t. t;
-  begins_read = λ m file s c at count there es ss t. t;
+  begins_read = λ m file s c at count any there es ss t. t;
   times_read = λ m file s xid place r at on es ss t. t;
   loses_read = λ m file s xid place r e at over es ss t. t;
-  begins_write = λ m file s c at bytes there can fresh es ss t. stepped_table m file s (phase file s.file (OwnWrite at bytes) m.fresh) es ss t;
-  begins_alone = λ m file s c at bytes there can spent es ss t. t;
+  begins_write = λ m file s c at bytes any there can fresh es ss t. stepped_table m file s (phase file s.file (OwnWrite at bytes) m.fresh) es ss t;
+  begins_alone = λ m file s c at bytes any there can spent es ss t. t;
   times_write = λ m file s w xid there waits out es ss t. t;
   ends_write = λ m file s w places there waits over fresh es ss t. stepped_table (with_served m file (without_write s)) file (without_write s) (phase file s.file (end_input s w) m.fresh) es ss t;
   drops_write = λ m file s w places there waits over spent es ss t. t;
   makes = λ m name may es ss t. t;
 }
+
+pub table_runs : RunParts Table
+table_runs = record {
+  confirmed = λ m client node es ss t. t;
+  destroys = λ m session es ss t. t;
+  returns = λ m file s errors there fresh es ss t. stepped_table m file s (phase file s.file (Returns (client_number (holder_of s.file.layout.phase)) s.file.layout.cred (report_of errors s.file.layout.live)) m.fresh) es ss t;
+  replies = λ m node xid bytes es ss t. sends_more m.calls m.next_xid ss _ t;
+  finishes = λ m pass bytes es ss t. t;
+}
+
+pub table_answers : GivesAnswers Table
+table_answers m node bytes reply is es ss t = sends_more m.calls m.next_xid ss _ t
 
 left : (node : NodeId) (xid : ℕ) (m : MdsValue) (es : List Entry) (ss : List MdsSend) → Table m es ss → Table (heard_by node xid m) es ss
 left node xid m es ss t = filtered (λ (call : AwaitedCall). not (is_call_to node xid call)) m.calls m.next_xid ss t
@@ -134,7 +141,7 @@ goes m node caller sent has fits es ss t = called (record { node = node; xid = m
 
 pub table_calls : Calls Table HeardAny
 table_calls = record {
-  fits = λ m es ss t. t.waiters;
+  fits = λ m es ss t call inside. inl (t.waiters call inside);
   hears = λ m node xid file s call c replies heard its there out fresh es ss t. stepped_table (heard_by node xid m) file s (phase file s.file (Answers xid (own_answer c (replies c))) m.fresh) es ss (left node xid m es ss t);
   unheard = λ m node xid file s call c its there spent es ss t. left node xid m es ss t;
   hears_read = λ m node xid file s call c replies place r heard its at on es ss t. left node xid m es ss t;
@@ -143,18 +150,26 @@ table_calls = record {
   hears_recall = λ m node xid status call found its out es ss t. left node xid m es ss t;
   leaves = λ m node xid call inside its off es ss t. left node xid m es ss t;
   forgets = λ m es ss t. filtered (is_awaited m) m.calls m.next_xid ss t;
+  late = λ m call inside is es ss t. t;
+  again = λ m call inside is es ss t. sends_more m.calls m.next_xid ss (call.sent ∷ []) t;
+}
+
+pub table_outs : OutParts Table
+table_outs = record {
   calls_file = λ m file s out there has idle its es ss t. goes m _ _ _ has tt es ss t;
   calls_write = λ m file s w out there has waits its es ss t. goes m _ _ _ has tt es ss t;
   calls_read = λ m file s place r out there has at its es ss t. goes m _ _ _ has tt es ss t;
   calls_back = λ m sent session has its es ss t. goes m _ _ _ has tt es ss t;
   skips = λ m sent has its es ss t. skipped m.calls m.next_xid ss has t;
-  late = λ m call inside is es ss t. t;
-  again = λ m call inside is es ss t. sends_more m.calls m.next_xid ss (call.sent ∷ []) t;
+  back = λ m client es ss t. t;
   repeats = λ m server xid call found es ss t. sends_more m.calls m.next_xid ss (call.sent ∷ []) t;
 }
 
 pub table_begins : KeepsBegin Table
 table_begins m request now es ss t = t
+
+pub table_whole : EventParts Table HeardAny AnyCompound
+table_whole = record { parts = table_parts; runs = table_runs; any = λ c. tt; answers = table_answers; calls = table_calls; outs = table_outs; begins = table_begins }
 
 pub new_table : IsTable [] 1 []
 new_table = record { sent = λ call inside. absurd inside; waiters = λ call inside. absurd inside; apart = λ a b one other same. absurd one; below = λ some call inside. absurd inside }
@@ -162,5 +177,5 @@ new_table = record { sent = λ call inside. absurd inside; waiters = λ call ins
 pub tables_stand : (servers : List AddressValue) (mirrors : ℕ) (events : List MdsEvent) → TableStands (mds_run servers mirrors events)
 tables_stand servers mirrors events =
     let t : IsTable (mds_run servers mirrors events).mds.calls (mds_run servers mirrors events).mds.next_xid (mds_run servers mirrors events).sends =
-    in_each_run Table table_parts table_calls table_begins (new_mds servers mirrors) events new_table in
+    in_each_run Table AnyCompound table_whole (new_mds servers mirrors) events new_table in
     record { sent = t.sent; waiters = t.waiters; apart = t.apart; below = t.below }

@@ -1,1 +1,3 @@
+pub mod MdsRuns
+pub mod FirstRequests
 pub mod CallTables

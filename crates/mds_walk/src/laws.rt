@@ -2,7 +2,7 @@
 
 ghost use Rattle.std.specs.Prelude.{ℕ, List};
 ghost use Rattle.device_addr.specs.Universal.{AddressValue};
-ghost use Rattle.mds_laws.specs.MdsRuns.{MdsEvent, mds_run};
+ghost use Rattle.mds_walk.specs.MdsRuns.{MdsEvent, mds_run};
 ghost use Rattle.mds_walk.specs.CallTables.{TableStands};
 
 /// Behind every run of a metadata server, whatever came, each call that was sent and is not answered went out; a call to

@@ -3,7 +3,7 @@
 ghost use Rattle.std.specs.Prelude.{◌≡◌, OnOk, Some};
 ghost use Rattle.rpc_record.specs.Replies.{rpc_reply};
 ghost use Rattle.client_state.specs.ClientSends.{and_then};
-ghost use Rattle.client_calls.specs.ClientCalls.{calls_all, ends_event};
+ghost use Rattle.client_calls.specs.ClientCalls.{ends_event};
 ghost use Rattle.mirror_client.specs.ClientRule.{with_request, client_requested, ticks_on, replied, mds_timed_out, timed_out_to, client_late, client_timed_out, stage_after_tick, client_at_tick, resends_late, is_stale_tie, renews, client_ticked};
 ghost use Rattle.client_state.specs.QueueSteps.{HasStepped};
 
@@ -14,7 +14,7 @@ use client_answers::{ds_answered, ds_timed_out};
 use client_calls::{ask_mds, end_event, may_ask};
 use client_state::{LayoutStage, State, Tie, UserRequest};
 use cluster_model::{Entry, NodeId, Outbox};
-use ff_xdr::{Data, NoMemory};
+use ff_xdr::NoMemory;
 use mds_calls::MdsAsk;
 use rpc_record::Reply;
 
@@ -78,7 +78,7 @@ fn mds_timed_out(client: &mut State, out: &mut Outbox) -> Result<(), NoMemory>
     let Some(asked) = &client.asked else {
         return Ok(());
     };
-    let message = Data::of(client.alloc, asked.message.bytes())?;
+    let message = asked.message.share(client.alloc)?;
     out.entries.push(Entry::TimedOut {
         node: NodeId::Client(client.number),
         xid: asked.xid,
@@ -162,7 +162,7 @@ fn resend_late(client: &mut State, out: &mut Outbox) -> Result<(), NoMemory>
         return Ok(());
     }
     asked.is_late = false;
-    let message = Data::of(client.alloc, asked.message.bytes())?;
+    let message = asked.message.share(client.alloc)?;
     out.sends.push((NodeId::Mds, message))?;
     Ok(())
 }

@@ -1,6 +1,6 @@
 //! Records that come to a client.
 
-ghost use Rattle.std.specs.Prelude.{◌≡◌, OnOk};
+ghost use Rattle.std.specs.Prelude.{OnOk};
 ghost use Rattle.rpc_record.specs.Calls.{call_at};
 ghost use Rattle.rpc_record.specs.Replies.{reply_at};
 ghost use Rattle.client_callbacks.specs.Callbacks.{callback_of};

@@ -1,6 +1,6 @@
 //! Replies of the metadata server.
 
-ghost use Rattle.std.specs.Prelude.{◌≡◌, OnOk};
+ghost use Rattle.std.specs.Prelude.{OnOk};
 ghost use Rattle.rpc_record.specs.Replies.{rpc_reply};
 ghost use Rattle.mds_calls.specs.MdsReplies.{reply_of_ask};
 ghost use Rattle.mirror_client.specs.ClientRule.{mds_replied};

@@ -7,6 +7,7 @@ ghost use Rattle.mirror_writer.specs.Outstanding.{out_at, out_call, out_shown, i
 
 use crate::call::WriterCall;
 use crate::mirrors::{all_cover, all_failed, first_on};
+use crate::write_bytes::WriteBytes;
 use crate::writer::Writer;
 use cluster_model::{DsCall, MirrorId};
 
@@ -36,7 +37,7 @@ impl Writer {
                     fileid,
                     at,
                     synced: false,
-                    bytes,
+                    bytes: bytes.bytes(),
                 };
                 Some((xid, call))
             }
@@ -59,12 +60,14 @@ impl Writer {
     }
 
     /// The taken write of this number, from 0: its place and its bytes.
-    pub fn write_numbered(&self, n: usize) -> Option<(u64, &[u8])>
+    pub fn write_numbered(&self, n: usize) -> Option<(u64, &WriteBytes)>
         ensures few { IfSome result (λ w. length w.1.now ≤ PIECE_SIZE) }
         ensures lent { LendsTaken (slice_get self.now.taken n) (option_map (λ w. (w.0, w.1.now)) result) }
     {
         let write = self.taken.get(n)?;
-        Some((write.at, write.bytes.bytes()))
+        // read, so that the proof knows how many there are
+        let _bytes = write.bytes.bytes();
+        Some((write.at, &write.bytes))
     }
 
     /// How many writes were taken.

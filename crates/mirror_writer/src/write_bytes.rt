@@ -25,14 +25,29 @@ impl Model for WriteBytes {
 }
 
 impl WriteBytes {
-    /// A copy of 1 to 65,536 bytes.
+    /// A copy of 1 to 65,536 bytes, which may be shared.
     pub fn of(alloc: Global, bytes: &[u8]) -> Result<WriteBytes, NoMemory>
         requires some { 1 ≤ length bytes.now }
         requires few { length bytes.now ≤ PIECE_SIZE }
         ensures { IfOk result (λ copy. copy ≡ bytes.now) }
     {
-        let bytes = Data::of(alloc, bytes)?;
+        let bytes = Data::to_share(alloc, bytes)?;
         Ok(WriteBytes { bytes })
+    }
+
+    /// The same bytes for another owner. They are not copied.
+    pub fn share(&self, alloc: Global) -> Result<WriteBytes, NoMemory>
+        ensures { IfOk result (λ other. other ≡ self.now) }
+    {
+        let bytes = self.bytes.share(alloc)?;
+        Ok(WriteBytes { bytes })
+    }
+
+    /// The bytes, for who shares them (`Data::share`).
+    pub fn data(&self) -> &Data
+        ensures { result.now ≡ self.now }
+    {
+        &self.bytes
     }
 
     /// The bytes.

@@ -1,6 +1,6 @@
 //! A writer over the mirrors of one file.
 
-ghost use Rattle.cluster_model.specs.declared.limits.TheConstants.{MAX_FILE, PIECE_SIZE};
+ghost use Rattle.cluster_model.specs.declared.limits.TheConstants.{MAX_FILE};
 ghost use Rattle.std.specs.Prelude.{◌≡◌, ℕ, ⊤, ◌≤◌, ◌+◌, ◌<◌, length, false, IfOk, OnOk, OnErr, option_map, position, map, slice_get};
 ghost use Rattle.std.specs.List.{list_all, list_any, find, All};
 ghost use Rattle.std.specs.Borrow.{sem, follows_so};
@@ -73,15 +73,13 @@ impl Writer {
         self.cred
     }
 
-    /// Takes a write of 1 to 65,536 bytes that ends at 67,108,864 or before, unless one of its places is a taken write's.
-    /// It waits at every mirror then.
-    pub fn write(&mut self, at: u64, bytes: &[u8]) -> WriteStart
-        requires some { 1 ≤ length bytes.now }
-        requires few { length bytes.now ≤ PIECE_SIZE }
+    /// Takes a write that ends at 67,108,864 or before, unless one of its places is a taken write's. It waits at every
+    /// mirror then. Its bytes are shared, and not copied.
+    pub fn write(&mut self, at: u64, bytes: &WriteBytes) -> WriteStart
         requires within { at + length bytes.now ≤ MAX_FILE }
         ensures { TakesWriteAs self.old at bytes.now result self.new }
     {
-        if self.places.overlaps(at, bytes.len() as u64) {
+        if self.places.overlaps(at, bytes.bytes().len() as u64) {
             return WriteStart::Overlap;
         }
         match self.take(at, bytes) {
@@ -91,9 +89,7 @@ impl Writer {
     }
 
     /// Takes a write that has no place in common with the taken ones. At an error nothing has changed.
-    fn take(&mut self, at: u64, bytes: &[u8]) -> Result<(), NoMemory>
-        requires some { 1 ≤ length bytes.now }
-        requires few { length bytes.now ≤ PIECE_SIZE }
+    fn take(&mut self, at: u64, bytes: &WriteBytes) -> Result<(), NoMemory>
         requires within { at + length bytes.now ≤ MAX_FILE }
         requires apart { overlaps_taken self.old at (length bytes.now) ≡ false }
         ensures ok { OnOk result (self.new ≡ with_write self.old at bytes.now) }
@@ -101,11 +97,11 @@ impl Writer {
     {
         let write = TakenWrite {
             at,
-            bytes: WriteBytes::of(self.alloc, bytes)?,
+            bytes: bytes.share(self.alloc)?,
         };
         reserve_all(&mut self.mirrors)?;
         self.taken.reserve(1)?;
-        self.places.insert(at, bytes.len() as u64)?;
+        self.places.insert(at, bytes.bytes().len() as u64)?;
         let n = self.taken.len();
         queue_all(n, &mut self.mirrors);
         self.taken.push_reserved(write);
@@ -276,7 +272,8 @@ impl Writer {
     pub fn taken(&self, n: u32) -> Option<(u64, &[u8])>
         ensures { LendsTaken (slice_get self.now.taken n) (option_map (λ w. (w.0, w.1.now)) result) }
     {
-        self.write_numbered(n as usize)
+        let (at, bytes) = self.write_numbered(n as usize)?;
+        Some((at, bytes.bytes()))
     }
 
     /// The taken write of this number is covered at this mirror.

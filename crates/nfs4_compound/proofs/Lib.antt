@@ -3,3 +3,4 @@ pub mod Steps
 pub mod Listings
 pub mod Statuses
 pub mod Unions
+pub mod JoinedUnions

@@ -7,6 +7,7 @@ use Rattle.nfs4_types.specs.Status.{nfsstat4, stat4_number}
 
 pub stat_fits : (s : Stat4) → Fits nfsstat4 (stat4_number s)
 stat_fits stat.Ok = refl
+stat_fits stat.Perm = refl
 stat_fits stat.NoEnt = refl
 stat_fits stat.Io = refl
 stat_fits stat.Access = refl
@@ -16,9 +17,11 @@ stat_fits stat.IsDir = refl
 stat_fits stat.Inval = refl
 stat_fits stat.Fbig = refl
 stat_fits stat.NoSpc = refl
+stat_fits stat.Rofs = refl
 stat_fits stat.NameTooLong = refl
 stat_fits stat.Stale = refl
 stat_fits stat.BadHandle = refl
+stat_fits stat.BadCookie = refl
 stat_fits stat.NotSupp = refl
 stat_fits stat.TooSmall = refl
 stat_fits stat.ServerFault = refl
@@ -26,8 +29,14 @@ stat_fits stat.Delay = refl
 stat_fits stat.NoFileHandle = refl
 stat_fits stat.MinorVersMismatch = refl
 stat_fits stat.StaleClientId = refl
+stat_fits stat.OldStateid = refl
 stat_fits stat.BadStateid = refl
+stat_fits stat.NotSame = refl
+stat_fits stat.AttrNotSupp = refl
+stat_fits stat.NoGrace = refl
 stat_fits stat.BadXdr = refl
+stat_fits stat.LocksHeld = refl
+stat_fits stat.BadOwner = refl
 stat_fits stat.OpIllegal = refl
 stat_fits stat.BadIoMode = refl
 stat_fits stat.BadSession = refl

@@ -9,7 +9,9 @@ use Rattle.nfs4_compound.specs.Args.{argop4}
 use Rattle.nfs4_compound.specs.CbArgs.{cb_argop4}
 use Rattle.nfs4_compound.specs.Results.{resop4}
 use Rattle.nfs4_compound.specs.CbResults.{cb_resop4}
+use Rattle.nfs4_compound.specs.declared.stop.Stop.{Stop}
 use Rattle.nfs4_compound.specs.Operations.{OpList, operations, verdict_of}
+use Rattle.nfs4_compound.specs.AllOps.{nfs_argop4, served_ops}
 
 -- a tag, utf8str_cs, of at most 1,024 bytes; the maximum is the project's own
 abbrev pub tag4 : Form
@@ -32,19 +34,23 @@ abbrev pub cb_compound4_res : Form
 cb_compound4_res = Pair nfsstat4 (Pair tag4 (Array 4294967295 cb_resop4))
 
 -- A compound's arguments of which the operations are read one by one: the tag, the minor version, how many operations there are to be,
--- and those that stand there.
+-- those that stand there, up to the first that is not carried out, and why none is read behind all that are.
 pub record CompoundValue : Type 0 where
   pub tag : List ℕ
   pub minorversion : ℕ
   pub count : ℕ
   pub ops : OpList argop4
+  pub stop : Stop
+
+abbrev pub whole_stop : ℕ → List ℕ → ℕ → Stop
+whole_stop count bytes at = (operations nfs_argop4 count bytes at).stop
 
 abbrev pub compound_head : Form
 compound_head = Pair tag4 (Pair Number32 Number32)
 
 abbrev pub compound_of : List ℕ → Value compound_head × ℕ → CompoundValue
 compound_of args ((tag, (minorversion, count)), at) =
-    record { tag = tag; minorversion = minorversion; count = count; ops = operations argop4 count args at }
+    record { tag = tag; minorversion = minorversion; count = count; ops = served_ops count args at; stop = whole_stop count args at }
 
 abbrev pub compound_at : List ℕ → Result CompoundValue XdrError
 compound_at args = do
@@ -55,7 +61,7 @@ compound_at args = do
 abbrev pub compound_verdict : List ℕ → Result (Unit {0}) XdrError
 compound_verdict args = do
   compound ← compound_at args
-  verdict_of compound.ops.stop
+  verdict_of compound.stop
 
 -- The same of a callback compound, which has a callback_ident too.
 pub record CbCompoundValue : Type 0 where

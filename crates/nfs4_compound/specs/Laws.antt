@@ -9,7 +9,10 @@ use Rattle.ff_xdr.specs.Reading.{number_at, reading, many_at}
 use Rattle.ff_xdr.specs.Laws.{IsBytes, Stands}
 use Rattle.nfs4_compound.specs.declared.stop.Stop.{Stop}
 use Rattle.nfs4_compound.specs.declared.stop.Stop.TheVariants as stop
+use Rattle.nfs4_compound.specs.Args.{argop4}
 use Rattle.nfs4_compound.specs.Operations.{OpList, left_at, stop_at, operations}
+use Rattle.nfs4_compound.specs.AllOps.{served_ops}
+use Rattle.nfs4_compound.specs.Compounds.{whole_stop}
 
 -- Why no operation is read at a place where so many are to come: none are; or the one that stands there is refused.
 abbrev pub IsStop : Form → List ℕ → ℕ → ℕ → Stop → Type 0
@@ -39,6 +42,15 @@ AreReadAgain form = (values : List (Value form)) (left : ℕ) (front rest : List
 abbrev pub AreGivenWhole : Form → Type 0
 AreGivenWhole form = (count : ℕ) (bytes : List ℕ) (at : ℕ) (values : List (Value form)) (to : ℕ)
     → many_at (λ place. reading form bytes place) count at ≡ Ok (values, to) → operations form count bytes at ≡ record { values = values; stop = stop.End (left_at bytes to) }
+
+-- What is read as an array of operations that are carried out is given whole, and nothing else.
+pub record GivesWhole (count : ℕ) (bytes : List ℕ) (at : ℕ) (values : List (Value argop4)) (to : ℕ) : Type 0 where
+  pub ops : served_ops count bytes at ≡ record { values = values; stop = stop.End (left_at bytes to) }
+  pub ends : whole_stop count bytes at ≡ stop.End (left_at bytes to)
+
+abbrev pub AreServedWhole : Type 0
+AreServedWhole = (count : ℕ) (bytes : List ℕ) (at : ℕ) (values : List (Value argop4)) (to : ℕ)
+    → many_at (λ place. reading argop4 bytes place) count at ≡ Ok (values, to) → GivesWhole count bytes at values to
 
 -- Where a number is refused of an operation, the operation or an arm of a union in it is not built, but for the operations of these
 -- numbers: there it is an enum's, and out of form. Any other refusal is one of form.

@@ -1,8 +1,10 @@
 pub mod Behind
+pub mod Joined
 pub mod Args
 pub mod CbArgs
 pub mod Results
 pub mod CbResults
 pub mod Operations
+pub mod AllOps
 pub mod Compounds
 pub mod Laws

@@ -1,11 +1,10 @@
 -- The results of operations by number (RFC 8881, sections 16.2.3 and 18): nfs_resop4.
 use Rattle.std.specs.Prelude.{ℕ, List, [], ◌∷◌}
 use Rattle.std.specs.Option.{option_map}
-use Rattle.ff_xdr.specs.Form.{Form, Void, Number64, Optional, Pair, Arm, Default, Value}
+use Rattle.ff_xdr.specs.Form.{Form, Void, Number64, Optional, Arm, NoArm, Value}
 use Rattle.ff_xdr.specs.Arms.{arm}
 use Rattle.nfs4_types.specs.Handles.{nfs_fh4}
 use Rattle.nfs4_types.specs.Stateids.{stateid4, stateid4_value}
-use Rattle.nfs4_types.specs.Status.{refusal4, stat4_number}
 use Rattle.nfs4_file_ops.specs.Fattr4.{fattr4, fattr4_value}
 use Rattle.nfs4_file_ops.specs.GetDeviceInfo.{getdeviceinfo4_res, getdeviceinfo4_res_value}
 use Rattle.nfs4_file_ops.specs.LayoutGet.{layoutget4_res, layoutget4_res_value}
@@ -18,7 +17,8 @@ use Rattle.nfs4_session_ops.specs.Directions.{from_server4, from_server4_number}
 use Rattle.nfs4_session_ops.specs.CreateSession.{create_session4_ok, create_session4_ok_value}
 use Rattle.nfs4_session_ops.specs.ExchangeId.{exchange_id4_ok, exchange_id4_ok_value}
 use Rattle.nfs4_session_ops.specs.SequenceRes.{sequence4_ok, sequence4_ok_value}
-use Rattle.nfs4_compound.specs.Behind.{behind_arms}
+use Rattle.nfs4_unserved_ops.specs.Results.{unserved_resop4, unserved_res_value}
+use Rattle.nfs4_compound.specs.Joined.{joined, behind}
 use Rattle.nfs4_compound.specs.declared.op_res.OpRes.{OpRes}
 use Rattle.nfs4_compound.specs.declared.op_res.OpRes.TheVariants as res
 
@@ -26,9 +26,9 @@ use Rattle.nfs4_compound.specs.declared.op_res.OpRes.TheVariants as res
 abbrev pub op_numbers : List ℕ
 op_numbers = 4 ∷ 5 ∷ 9 ∷ 10 ∷ 15 ∷ 18 ∷ 22 ∷ 24 ∷ 25 ∷ 38 ∷ 41 ∷ 42 ∷ 43 ∷ 44 ∷ 47 ∷ 49 ∷ 50 ∷ 51 ∷ 53 ∷ 57 ∷ 58 ∷ []
 
--- The result of each that is built, by its number. Under any other number stands a status other than OK, and nothing more.
-abbrev pub resop4 : Form
-resop4 =
+-- the result of each that is carried out, by its number
+abbrev pub served_resop4 : Form
+served_resop4 =
     Arm 4 (result4 stateid4)
     (Arm 5 (result4 Number64)
     (Arm 9 (result4 fattr4)
@@ -49,7 +49,11 @@ resop4 =
     (Arm 51 (result4 (Optional stateid4))
     (Arm 53 (result4 sequence4_ok)
     (Arm 57 (result4 Void)
-    (Arm 58 (result4 Void) (Pair (Default op_numbers) refusal4)))))))))))))))))))))
+    (Arm 58 (result4 Void) NoArm))))))))))))))))))))
+
+-- nfs_resop4: these, those of the operations that are not carried out, and under any other number a status other than OK
+abbrev pub resop4 : Form
+resop4 = joined served_resop4 unserved_resop4
 
 abbrev pub op_res_value : OpRes → Value resop4
 op_res_value (res.Close r) = arm 4 resop4 (result4_value stateid4 stateid4_value r)
@@ -73,4 +77,4 @@ op_res_value (res.LayoutReturn r) = arm 51 resop4 (result4_value (Optional state
 op_res_value (res.Sequence r) = arm 53 resop4 (result4_value sequence4_ok sequence4_ok_value r)
 op_res_value (res.DestroyClientId r) = arm 57 resop4 (result4_value Void (λ nothing. tt) r)
 op_res_value (res.ReclaimComplete r) = arm 58 resop4 (result4_value Void (λ nothing. tt) r)
-op_res_value (res.Unbuilt number status) = behind_arms resop4 (number, stat4_number status)
+op_res_value (res.Unserved r) = behind served_resop4 unserved_resop4 tt (unserved_res_value r)

@@ -39,7 +39,7 @@ impl CbRes {
     pub fn number(&self) -> u32
         ensures { result ≡ union_number cb_resop4 (cb_res_value self.now) }
     {
-        callbacks!(number_of_result, CbRes self)
+        callbacks!(number_of_result, CbRes self, [CbRes::Unbuilt(number, _) => *number,])
     }
 }
 
@@ -74,10 +74,16 @@ impl<'a> Wire<'a> for CbRes {
     }
 
     fn put(&self, out: &mut Out) -> Result<(), NoMemory> {
-        callbacks!(put_result, CbRes self, out)
+        callbacks!(put_result, CbRes self, out, [
+            CbRes::Unbuilt(number, status) => (*number, Refusal4 { status: *status }).put(out),
+        ])
     }
 
     fn fits(&self) -> bool {
-        callbacks!(fits_result, CbRes self, is_built_cb_op)
+        callbacks!(fits_result, CbRes self, [
+            CbRes::Unbuilt(number, status) => {
+                !is_built_cb_op(*number) && Refusal4 { status: *status }.fits()
+            }
+        ])
     }
 }

@@ -6,8 +6,8 @@ ghost use Rattle.nfs4_compound.specs.Args.{argop4, op_value};
 ghost use Rattle.nfs4_compound.specs.Operations.{GivesNext, rest_now, rest_of_stop};
 ghost use Rattle.nfs4_compound.specs.Compounds.{compound_at, compound_verdict};
 
-use crate::refused::unbuilt_op;
-use crate::{NextOp, Op, Stop, Tag4};
+use crate::all_ops::AllOps;
+use crate::{AnyOp, NextOp, Op, Stop, Tag4};
 use ff_xdr::{Cursor, Wire, XdrError};
 use std::marker::Model;
 
@@ -23,13 +23,12 @@ pub struct Compound<'a> {
 
 impl<'a> Model for Compound<'a> {
     ghost use Rattle.std.specs.Prelude.{◌≤◌, length};
-    ghost use Rattle.nfs4_compound.specs.Args.{argop4};
-    ghost use Rattle.nfs4_compound.specs.Operations.{operations};
-    ghost use Rattle.nfs4_compound.specs.Compounds.{CompoundValue};
+    ghost use Rattle.nfs4_compound.specs.AllOps.{served_ops};
+    ghost use Rattle.nfs4_compound.specs.Compounds.{CompoundValue, whole_stop};
 
     ghost Value = { CompoundValue };
 
-    ghost view = { λ c. record { tag = c.tag.now; minorversion = c.minorversion; count = c.count; ops = operations argop4 c.count c.bytes.now c.at } };
+    ghost view = { λ c. record { tag = c.tag.now; minorversion = c.minorversion; count = c.count; ops = served_ops c.count c.bytes.now c.at; stop = whole_stop c.count c.bytes.now c.at } };
 
     ghost invariant = { λ c. c.at ≤ length c.bytes.now };
 }
@@ -72,36 +71,35 @@ impl<'a> Compound<'a> {
         self.count
     }
 
-    /// The operations, one by one.
+    /// The operations, one by one, up to the first that is not carried out.
     pub fn ops(&self) -> Ops<'a>
         ensures { result ≡ self.now.ops }
     {
         Ops {
-            bytes: self.bytes,
-            at: self.at,
-            left: self.count,
+            all: AllOps {
+                bytes: self.bytes,
+                at: self.at,
+                left: self.count,
+            },
         }
     }
 
-    /// Why there is no operation behind those that are read. All are gone over.
+    /// Why there is no operation behind those that are read, also of those that are not carried out. All are gone over.
     pub fn stop(&self) -> Stop
-        ensures { result ≡ self.now.ops.stop }
+        ensures { result ≡ self.now.stop }
     {
-        let mut ops = self.ops();
-        loop {
-            match ops.next() {
-                NextOp::Op(_) => {}
-                NextOp::Unread(number) => return Stop::Unread(number),
-                NextOp::Bad(error) => return Stop::Bad(error),
-                NextOp::End => return Stop::End(ops.rest()),
-            }
-        }
+        let all = AllOps {
+            bytes: self.bytes,
+            at: self.at,
+            left: self.count,
+        };
+        all.stop()
     }
 
     /// The place of the first byte behind the last operation, where all operations are read and bytes are
     /// left: from the first byte of the arguments.
     pub fn rest(&self) -> Option<usize>
-        ensures { result ≡ rest_of_stop self.now.ops.stop }
+        ensures { result ≡ rest_of_stop self.now.stop }
     {
         match self.stop() {
             Stop::End(rest) => rest,
@@ -110,46 +108,38 @@ impl<'a> Compound<'a> {
     }
 }
 
-/// The operations of a compound that are left.
+/// The operations of a compound that are left, as far as they are carried out.
 #[derive(Drop)]
 pub struct Ops<'a> {
-    pub(crate) bytes: &'a [u8],
-    pub(crate) at: usize,
-    pub(crate) left: u32,
+    pub(crate) all: AllOps<'a>,
 }
 
 impl<'a> Model for Ops<'a> {
-    ghost use Rattle.std.specs.Prelude.{◌≤◌, length};
     ghost use Rattle.nfs4_compound.specs.Args.{argop4};
-    ghost use Rattle.nfs4_compound.specs.Operations.{OpList, operations};
+    ghost use Rattle.nfs4_compound.specs.Operations.{OpList};
+    ghost use Rattle.nfs4_compound.specs.AllOps.{served_list};
 
     ghost Value = { OpList argop4 };
 
-    ghost view = { λ o. operations argop4 o.left o.bytes.now o.at };
-
-    ghost invariant = { λ o. o.at ≤ length o.bytes.now };
+    ghost view = { λ o. served_list o.all };
 }
 
 impl<'a> Ops<'a> {
-    /// The next operation, read in place. Behind the last, and where one is not read, each call answers
-    /// the same.
+    /// The next operation, read in place. Behind the last, where one is not read, and where one is not carried out, which is
+    /// told as one that is not built, each call answers the same.
     pub fn next(&mut self) -> NextOp<Op<'a>>
         ensures { GivesNext argop4 op_value self.old result self.new }
     {
-        if self.left == 0 {
-            return NextOp::End;
-        }
-        let mut cursor = Cursor::at(self.bytes, self.at);
-        match Op::read(&mut cursor) {
-            Ok(op) => {
-                self.at = cursor.place();
-                self.left -= 1;
+        let mut all = self.all.at_same_place();
+        match all.next() {
+            NextOp::Op(AnyOp::Served(op)) => {
+                self.all = all;
                 NextOp::Op(op)
             }
-            Err(error) => match unbuilt_op(self.bytes, self.at, error) {
-                Some(number) => NextOp::Unread(number),
-                None => NextOp::Bad(error),
-            },
+            NextOp::Op(AnyOp::Unserved(op)) => NextOp::Unread(op.number()),
+            NextOp::Unread(number) => NextOp::Unread(number),
+            NextOp::Bad(error) => NextOp::Bad(error),
+            NextOp::End => NextOp::End,
         }
     }
 
@@ -158,13 +148,7 @@ impl<'a> Ops<'a> {
     pub fn rest(&self) -> Option<usize>
         ensures { result ≡ rest_now self.now.values self.now.stop }
     {
-        if self.left > 0 {
-            return None;
-        }
-        if self.at < self.bytes.len() {
-            return Some(self.at);
-        }
-        None
+        self.all.rest()
     }
 }
 

@@ -3,6 +3,7 @@
 ghost use Rattle.std.specs.Prelude.{◌≡◌, IfOk};
 
 use crate::Ops;
+use crate::all_ops::AllOps;
 use ff_xdr::{Data, NoMemory};
 use std::alloc::Global;
 use std::marker::Model;
@@ -18,11 +19,12 @@ pub struct KeptOps {
 impl Model for KeptOps {
     ghost use Rattle.std.specs.Prelude.{◌≤◌, length};
     ghost use Rattle.nfs4_compound.specs.Args.{argop4};
-    ghost use Rattle.nfs4_compound.specs.Operations.{OpList, operations};
+    ghost use Rattle.nfs4_compound.specs.Operations.{OpList};
+    ghost use Rattle.nfs4_compound.specs.AllOps.{served_ops};
 
     ghost Value = { OpList argop4 };
 
-    ghost view = { λ o. operations argop4 o.left o.bytes o.at };
+    ghost view = { λ o. served_ops o.left o.bytes o.at };
 
     ghost invariant = { λ o. o.at ≤ length o.bytes };
 }
@@ -33,9 +35,11 @@ impl KeptOps {
         ensures { result ≡ self.now }
     {
         Ops {
-            bytes: self.bytes.bytes(),
-            at: self.at,
-            left: self.left,
+            all: AllOps {
+                bytes: self.bytes.bytes(),
+                at: self.at,
+                left: self.left,
+            },
         }
     }
 }
@@ -45,11 +49,11 @@ impl<'a> Ops<'a> {
     pub fn keep(&self, alloc: Global) -> Result<KeptOps, NoMemory>
         ensures { IfOk result (λ kept. kept ≡ self.now) }
     {
-        let bytes = Data::of(alloc, self.bytes)?;
+        let bytes = Data::of(alloc, self.all.bytes)?;
         Ok(KeptOps {
             bytes,
-            at: self.at,
-            left: self.left,
+            at: self.all.at,
+            left: self.all.left,
         })
     }
 }

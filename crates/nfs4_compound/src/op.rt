@@ -19,8 +19,8 @@ use nfs4_session_ops::{
 };
 use nfs4_types::Sequence;
 
-/// An operation of a compound, with its arguments, `nfs_argop4` (RFC 8881, section 16.2.3). A number that is
-/// not built is refused as `NotEnum`.
+/// An operation of a compound that is carried out, with its arguments (RFC 8881, section 16.2.3). Any other number is
+/// refused as `NotEnum`.
 #[derive(Clone, Copy, Debug)]
 pub enum Op<'a> {
     /// RFC 8881, section 18.2.

@@ -6,10 +6,10 @@ ghost use Rattle.ff_xdr.specs.Calls.{Decodes};
 ghost use Rattle.ff_xdr.specs.Form.{has_arm};
 ghost use Rattle.ff_xdr.specs.Reading.{arm_reading};
 ghost use Rattle.nfs4_compound.specs.Behind.{union_number};
-ghost use Rattle.nfs4_compound.specs.Results.{op_numbers, resop4, op_res_value};
+ghost use Rattle.nfs4_compound.specs.Results.{op_numbers, served_resop4, resop4, op_res_value};
 
 use crate::operations::{
-    fits_result, is_one, number_of_result, operations, put_result, read_result,
+    debug_result, fits_result, is_one, number_of_result, operations, put_result, read_result,
 };
 use ff_xdr::{Cursor, Message, NoMemory, Out, Wire, XdrError};
 use nfs4_file_ops::{
@@ -20,9 +20,10 @@ use nfs4_session_ops::{
     BindConnRes, CreateSessionRes, DestroyClientIdRes, DestroySessionRes, ExchangeIdRes,
     ReclaimCompleteRes, SequenceRes,
 };
-use nfs4_types::{Refusal4, Stat4};
+use nfs4_unserved_ops::UnservedRes;
+use std::fmt;
 
-/// The operation with this number is built.
+/// The operation with this number is carried out.
 pub fn is_built_op(number: u32) -> bool
     ensures { result ≡ list_any (nat_eq number) op_numbers }
 {
@@ -30,7 +31,7 @@ pub fn is_built_op(number: u32) -> bool
 }
 
 /// The result of an operation, `nfs_resop4` (RFC 8881, section 16.2.3).
-#[derive(Clone, Copy, Debug)]
+#[derive(Clone, Copy)]
 pub enum OpRes<'a> {
     /// RFC 8881, section 18.2.
     Close(CloseRes),
@@ -74,8 +75,8 @@ pub enum OpRes<'a> {
     DestroyClientId(DestroyClientIdRes),
     /// RFC 8881, section 18.51.
     ReclaimComplete(ReclaimCompleteRes),
-    /// A status other than OK under a number that is not built.
-    Unbuilt(u32, Stat4),
+    /// That of an operation that is not carried out, or a status other than OK under any other number.
+    Unserved(UnservedRes<'a>),
 }
 
 impl<'a> OpRes<'a> {
@@ -83,16 +84,22 @@ impl<'a> OpRes<'a> {
     pub fn number(&self) -> u32
         ensures { result ≡ union_number resop4 (op_res_value self.now) }
     {
-        operations!(number_of_result, OpRes self)
+        operations!(number_of_result, OpRes self, [OpRes::Unserved(result) => result.number(),])
     }
 }
 
-/// Reads the result of an operation that is built, behind its number.
+/// Reads the result of an operation that is carried out, behind its number.
 fn read_op_result<'a>(number: u32, cursor: &mut Cursor<'a>) -> Result<OpRes<'a>, XdrError>
-    requires { IsTrue (has_arm number resop4) }
+    requires { IsTrue (has_arm number served_resop4) }
     ensures { Decodes op_res_value cursor.old result cursor.new (arm_reading resop4 number cursor.old.bytes cursor.old.at) }
 {
     operations!(read_result, OpRes number, cursor)
+}
+
+impl<'a> fmt::Debug for OpRes<'a> {
+    fn fmt<W: fmt::Write>(&self, f: &mut fmt::Formatter<W>) -> fmt::Result {
+        operations!(debug_result, OpRes self, f, [OpRes::Unserved(result) => result.fmt(f),])
+    }
 }
 
 impl<'a> Message for OpRes<'a> {
@@ -108,9 +115,7 @@ impl<'a> Wire<'a> for OpRes<'a> {
         let mut fork = cursor.fork();
         let number = fork.number32()?;
         if !is_built_op(number) {
-            let refusal = Refusal4::read(&mut fork)?;
-            *cursor = fork;
-            return Ok(OpRes::Unbuilt(number, refusal.status));
+            return Ok(OpRes::Unserved(UnservedRes::read(cursor)?));
         }
         let result = read_op_result(number, &mut fork)?;
         *cursor = fork;
@@ -118,10 +123,10 @@ impl<'a> Wire<'a> for OpRes<'a> {
     }
 
     fn put(&self, out: &mut Out) -> Result<(), NoMemory> {
-        operations!(put_result, OpRes self, out)
+        operations!(put_result, OpRes self, out, [OpRes::Unserved(result) => result.put(out),])
     }
 
     fn fits(&self) -> bool {
-        operations!(fits_result, OpRes self, is_built_op)
+        operations!(fits_result, OpRes self, [OpRes::Unserved(result) => result.fits(),])
     }
 }

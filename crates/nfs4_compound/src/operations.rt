@@ -1,4 +1,4 @@
-//! The operations that are built, by number (RFC 8881, sections 18 and 20).
+//! The operations that are carried out, by number (RFC 8881, sections 18 and 20).
 
 /// The table of the operations: the number and the variant of `Op` and of `OpRes`, first of those that
 /// have arguments, then of the others. It is handed to one of the macros below.
@@ -75,13 +75,13 @@ macro_rules! fits_args {
     };
 }
 
-/// The number under which a result stands.
+/// The number under which a result stands; the last arms are those of the other results.
 macro_rules! number_of_result {
-    ([$($number:literal $variant:ident),*] [$($bare_number:literal $bare:ident),*] $kind:ident $result:expr) => {
+    ([$($number:literal $variant:ident),*] [$($bare_number:literal $bare:ident),*] $kind:ident $result:expr, [$($others:tt)*]) => {
         match $result {
             $($kind::$variant(_) => $number,)*
             $($kind::$bare(_) => $bare_number,)*
-            $kind::Unbuilt(number, _) => *number,
+            $($others)*
         }
     };
 }
@@ -97,9 +97,9 @@ macro_rules! read_result {
     };
 }
 
-/// Appends a result, its number first.
+/// Appends a result, its number first; the last arms are those of the other results.
 macro_rules! put_result {
-    ([$($number:literal $variant:ident),*] [$($bare_number:literal $bare:ident),*] $kind:ident $result:expr, $out:expr) => {
+    ([$($number:literal $variant:ident),*] [$($bare_number:literal $bare:ident),*] $kind:ident $result:expr, $out:expr, [$($others:tt)*]) => {
         match $result {
             $($kind::$variant(result) => {
                 let number: u32 = $number;
@@ -109,25 +109,35 @@ macro_rules! put_result {
                 let number: u32 = $bare_number;
                 (number, *result).put($out)
             })*
-            $kind::Unbuilt(number, status) => (*number, Refusal4 { status: *status }).put($out),
+            $($others)*
         }
     };
 }
 
-/// A result has a spelling: that under a number that is not built stands under no other.
+/// A result as its variant and what is in it; the last arms are those of the other results.
+macro_rules! debug_result {
+    ([$($number:literal $variant:ident),*] [$($bare_number:literal $bare:ident),*] $kind:ident $result:expr, $f:expr, [$($others:tt)*]) => {
+        match $result {
+            $($kind::$variant(result) => $f.debug_tuple(stringify!($variant)).field(result).finish(),)*
+            $($kind::$bare(result) => $f.debug_tuple(stringify!($bare)).field(result).finish(),)*
+            $($others)*
+        }
+    };
+}
+
+/// A result has a spelling; the last arms are those of the other results.
 macro_rules! fits_result {
-    ([$($number:literal $variant:ident),*] [$($bare_number:literal $bare:ident),*] $kind:ident $result:expr, $is_built:ident) => {
+    ([$($number:literal $variant:ident),*] [$($bare_number:literal $bare:ident),*] $kind:ident $result:expr, [$($others:tt)*]) => {
         match $result {
             $($kind::$variant(result) => Wire::fits(result),)*
             $($kind::$bare(result) => Wire::fits(result),)*
-            $kind::Unbuilt(number, status) => {
-                !$is_built(*number) && Refusal4 { status: *status }.fits()
-            }
+            $($others)*
         }
     };
 }
 
 pub(crate) use callbacks;
+pub(crate) use debug_result;
 pub(crate) use fits_args;
 pub(crate) use fits_result;
 pub(crate) use is_one;

@@ -26,7 +26,7 @@ pub use laws::different_ids;
 pub use objects::{Component4, MAX_OPAQUE4, OpaqueBody, Owner4};
 pub use op_result::OpResult;
 pub use sequence::Sequence;
-pub use stateid::{Stateid, layout_stateid, open_stateid};
+pub use stateid::{Stateid, layout_stateid, open_stateid, read_stateid};
 pub use status::{Refusal4, Stat4};
 pub use texts::FreeText;
 pub use time::Time4;

@@ -1,7 +1,7 @@
 //! Stateids.
 
 ghost use Rattle.std.specs.Prelude.{◌≡◌, refl};
-ghost use Rattle.nfs4_types.specs.Stateids.{stateid4, stateid4_value, three_words, layout_stateid_of, open_stateid_of};
+ghost use Rattle.nfs4_types.specs.Stateids.{stateid4, stateid4_value, three_words, layout_stateid_of, open_stateid_of, read_stateid_of};
 
 use ff_xdr::{Cursor, Message, NoMemory, Out, Wire, XdrError};
 
@@ -68,5 +68,16 @@ pub fn open_stateid(file: u32, n: u32) -> Stateid
     Stateid {
         seqid: 1,
         other: words(file, 0, n),
+    }
+}
+
+/// The stateid of a layout for reading: which state it is are the file, the uid that the file belongs to,
+/// and 1.
+pub fn read_stateid(file: u32, uid: u32, seqid: u32) -> Stateid
+    ensures { result ≡ read_stateid_of file uid seqid }
+{
+    Stateid {
+        seqid,
+        other: words(file, uid, 1),
     }
 }

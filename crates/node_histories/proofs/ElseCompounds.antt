@@ -44,7 +44,7 @@ use Rattle.mds_rule.specs.OpSteps.{OpStep, Goes, Ends, Waits, with_result, refus
 use Rattle.mds_rule.specs.ServedFiles.{takes_input}
 use Rattle.mds_rule.specs.Compounds.{operate, has_session, operates, compound_bytes, kept_in_slot, finishes, op_then, with_ops, runs, sequence_in, in_slot, sequenced, sequence_of, may_stand_alone, first_alone, first_by, first_operation, new_run, runs_compound}
 use Rattle.mds_rule.specs.Answers.{is_awaited, sized, fileid_of, attributes_shown, sees_in, sees_size, resumes, is_done_as, has_failed_as, read_result, without_read, read_ends, read_step_at, read_from, read_of, steps_read, is_read_out, write_answer, write_stepped, write_ends, write_of, write_in, steps_write, failures_by_place, has_failed_everywhere, sees_ctime, recall_end, recall_outcome, recalls_after, own_answer, server_answered, answered_as, answers_found, takes_answer, timed_out_for}
-use Rattle.mds_laws.proofs.Lists.{AllOf, all_set, all_got}
+use Rattle.mds_walk.proofs.Lists.{AllOf, all_set, all_got}
 use Rattle.node_histories.proofs.Elsewhere.{all_join, IsElse, TableElse, ReadElse, WriteElse, FileElse, Else, StepElse, binding_else, request_else, finish_else, with_table, with_file_else, served_else, without_calls_else, none_goes, then_goes}
 use Rattle.node_histories.proofs.ElseInputs.{takes_else}
 use Rattle.node_histories.proofs.ElseOperations.{OpElse, puts_fh, gets_fh, looks_up, gets_attr, opens_so, closes_file, commits, reads, writes, layout_gets, layout_returns, layout_commits, device_infos, exchanges, creates, binds, destroys_session, destroys_client, reclaims_all}

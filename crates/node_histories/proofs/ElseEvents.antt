@@ -33,9 +33,9 @@ use Rattle.mds_rule.specs.Compounds.{runs_compound}
 use Rattle.mds_rule.specs.Answers.{is_awaited, takes_answer, timed_out_for}
 use Rattle.mds_rule.specs.Goes.{xid_after, stateid_seqid, calls_as, calls_server, OwnCall, own_of_file, own_of_write, own_by, place_of, own_call_at, own_next, has_xids, own_call, own_two, own_calls, read_goes, read_call, read_call_in, each, read_count, read_calls, calls_back, recall_goes, recall_call, repeats_call, repeats, place_calls, file_calls, calls_out}
 use Rattle.mds_rule.specs.Events.{takes_incoming, late_call, is_kept_by, goes_again, times_out, lease_ends, leases_end, recall_expires, recalls_expire, kept_calls, files_tick, forgets_calls, takes_tick}
-use Rattle.mds_laws.specs.MdsRuns.{MdsInput, MdsEvent, Hears, IsTimedOut, Ticks as IsTick, RecallsFile, Resilvers, by_input, after_event, run_from}
-use Rattle.mds_laws.proofs.Lists.{AllOf, all_set, all_got, all_in}
-use Rattle.mds_laws.proofs.LateFound.{late_is}
+use Rattle.mds_walk.specs.MdsRuns.{MdsInput, MdsEvent, Hears, IsTimedOut, Ticks as IsTick, RecallsFile, Resilvers, by_input, after_event, run_from}
+use Rattle.mds_walk.proofs.Lists.{AllOf, all_set, all_got, all_in}
+use Rattle.mds_walk.proofs.LateFound.{late_is}
 use Rattle.node_histories.proofs.Elsewhere.{IsElse, SendElse, CallElse, ReadElse, WriteElse, FileElse, Else, StepElse, all_found, gone_else, called_else, last_session_else, with_table, with_file_else, served_else, with_call_else, without_calls_else, none_goes, then_goes}
 use Rattle.node_histories.proofs.ElseInputs.{takes_else, asks_else, client_ends_else}
 use Rattle.node_histories.proofs.ElseCompounds.{compound_else, answer_else, timeout_else}

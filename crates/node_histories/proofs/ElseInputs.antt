@@ -15,7 +15,7 @@ use Rattle.recall.specs.Recalls.{without_file, is_under_way, new_recall, with_re
 use Rattle.cluster_model.specs.declared.ids.Cred.{Cred}
 use Rattle.mds_rule.specs.MdsStates.{WaitingRead, ServedFile, MdsValue, MdsStep, sends_none, served, with_served}
 use Rattle.mds_rule.specs.ServedFiles.{has_fresh, is_swap, is_period_end, begins_again, reads_behind, file_behind, file_stepped, input_at, takes_input, with_new_recall, recall_by, recall_at, asks_back, held_from, one_by_one, ends_periods, forgotten, ends_client}
-use Rattle.mds_laws.proofs.Lists.{AllOf}
+use Rattle.mds_walk.proofs.Lists.{AllOf}
 use Rattle.node_histories.proofs.Elsewhere.{ReadElse, FileElse, Else, StepElse, with_file_else, served_else, none_goes, then_goes}
 
 again_else : (live : List Mirror) (reads : List WaitingRead) → AllOf ReadElse reads → AllOf ReadElse (map (begins_again live) reads)

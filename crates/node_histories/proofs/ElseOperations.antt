@@ -62,7 +62,7 @@ use Rattle.mds_rule.specs.ServedFiles.{takes_input, asks_back, ends_periods}
 use Rattle.mds_rule.specs.SessionOps.{with_exchange, runs_exchange, confirms, gone_with, goes_with, with_session, with_create, runs_create, on_session, runs_bind, runs_destroy_session, runs_destroy_client, reclaims}
 use Rattle.mds_rule.specs.FileOps.{client_of, current_file, file_or_none, stateid_in, named_in, put_object, runs_put_fh, get_object, runs_get_fh, runs_lookup, get_attributes, runs_get_attr, with_new_file, opens_or_makes, opens_file, open_named, creation_in, can_open, may_make, runs_open, name_in, closes, runs_close, runs_commit, reads_at, runs_read, read_length, with_read, with_write, writes_at, writes_file, ends_by, write_refused, runs_write, write_ask, is_delay}
 use Rattle.mds_rule.specs.LayoutOps.{no_stateid, layout_asked, layout_found, with_holder, granted_in, grants_to, is_granted, phase_behind, later_by, layout_answer, runs_layout_get, is_try_later, errors_of, client_number, return_by, returns_file, file_return, returns_all, runs_layout_return, runs_layout_commit, device_from, device_size, device_answer, runs_get_device_info}
-use Rattle.mds_laws.proofs.Lists.{all_push}
+use Rattle.mds_walk.proofs.Lists.{all_push}
 use Rattle.node_histories.proofs.Elsewhere.{IsElse, TableElse, ReadElse, FileElse, Else, StepElse, binding_else, exchange_else, creating_else, destroyed_else, gone_else, with_table, with_file_else, served_else, none_goes}
 use Rattle.node_histories.proofs.ElseInputs.{takes_else, asks_else, periods_else, client_ends_else}
 

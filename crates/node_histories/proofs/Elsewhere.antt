@@ -19,8 +19,8 @@ use Rattle.nfs4_session.specs.Requests.{change_slot, after_request, after_finish
 use Rattle.nfs4_types.specs.declared.sequence.Sequence.{Sequence}
 use Rattle.mds_rule.specs.MdsStates.{WaitingRead, WaitingWrite, ServedFile, MdsSend, AwaitedCall, MdsValue, MdsStep, sends_none, and_then, with_call, with_served, served}
 use Rattle.mds_rule.specs.Spelled.{spelled_send}
-use Rattle.mds_laws.proofs.Lists.{in_with_call, in_filtered, found_in, AllOf, all_push, all_in, all_set, all_got}
-use Rattle.mds_laws.proofs.OpsWalk.{place_served}
+use Rattle.mds_walk.proofs.Lists.{in_with_call, in_filtered, found_in, AllOf, all_push, all_in, all_set, all_got}
+use Rattle.mds_walk.proofs.Served.{place_served}
 
 -- ---- nodes
 

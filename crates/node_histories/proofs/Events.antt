@@ -25,7 +25,7 @@ use Rattle.client_laws.specs.ClientHistory.{ClientInput, Requested, Recorded, Ti
 use Rattle.mds_rule.specs.MdsStates.{MdsStep, served, numbered}
 use Rattle.mds_rule.specs.Spelled as mds
 use Rattle.mds_rule.specs.Events.{takes_record}
-use Rattle.mds_laws.specs.MdsRuns.{MdsEvent, Hears, IsTimedOut, Ticks, RecallsFile, Resilvers, after_event}
+use Rattle.mds_walk.specs.MdsRuns.{MdsEvent, Hears, IsTimedOut, Ticks, RecallsFile, Resilvers, after_event}
 use Rattle.mds_histories.specs.MdsHistory.{Comes}
 use Rattle.packet_table.specs.declared.note.PacketNote.{PacketNote}
 use Rattle.packet_table.specs.Packets.{packet_numbered, number_between}

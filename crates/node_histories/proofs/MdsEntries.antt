@@ -14,8 +14,10 @@ use Rattle.mds_rule.specs.Answers.{own_answer}
 use Rattle.mds_rule.specs.MdsStates.{ServedFile, MdsSend, CallsServer, CallsBack, Replies, Answers, AwaitedCall, MdsValue, with_call, with_served}
 use Rattle.mds_rule.specs.declared.waiter.Waiter.TheVariants.{ForFile, ForRead, ForWrite, ForRecall}
 use Rattle.mds_rule.specs.ServedFiles.{is_period_end, file_behind, file_stepped}
-use Rattle.mds_laws.specs.MdsRuns.{MdsEvent, after_event}
-use Rattle.mds_laws.proofs.Keeping.{Cases, HeardAny, hears_any, is_note}
+use Rattle.mds_walk.specs.MdsRuns.{MdsEvent, after_event}
+use Rattle.mds_laws.proofs.Keeping.{Cases, is_note}
+use Rattle.mds_walk.proofs.Parts.{HeardAny}
+use Rattle.mds_walk.proofs.Keeping.{hears_any}
 use Rattle.mds_laws.proofs.Numbers.{WereSent, sent_more, sent_with, sent_kept}
 use Rattle.mds_laws.proofs.GoesWalk.{event_walk}
 use Rattle.node_histories.proofs.Parts.{all_joined}

@@ -4,7 +4,7 @@ use Rattle.std.proofs.lemmas.List.{append_assoc, append-nil}
 use Rattle.cluster_model.specs.declared.ids.NodeId.TheVariants.{Mds}
 use Rattle.cluster_model.specs.declared.entry.Entry.{Entry}
 use Rattle.mds_rule.specs.MdsStates.{MdsValue, new_mds}
-use Rattle.mds_laws.specs.MdsRuns.{MdsEvent, after_event, run_from}
+use Rattle.mds_walk.specs.MdsRuns.{MdsEvent, after_event, run_from}
 use Rattle.mds_histories.specs.MdsHistory.{MdsItem, Comes, Enters, items_of, mds_history}
 use Rattle.node_histories.specs.Weaves.{WeaveStep, entries_in, items_in, AreWoven}
 use Rattle.node_histories.specs.NodeHistories.{AreTogether, mds_shown, MdsStory, IsMdsStory}

@@ -7,7 +7,7 @@ use Rattle.std.proofs.lemmas.Option.{same_Some}
 use Rattle.cluster_model.specs.declared.ids.NodeId.{NodeId}
 use Rattle.cluster_model.specs.declared.entry.Entry.{Entry}
 use Rattle.cluster_model.specs.declared.entry.Entry.TheVariants.{Packet, Delivered}
-use Rattle.mds_laws.proofs.Lists.{Split, split_in, got_in}
+use Rattle.mds_walk.proofs.Lists.{Split, split_in, got_in}
 use Rattle.packet_table.specs.declared.note.PacketNote.{PacketNote}
 use Rattle.packet_table.specs.Packets.{PacketsValue, packet_numbered, came_at, after_coming}
 use Rattle.world_journal.specs.SentPackets.{packets_of}

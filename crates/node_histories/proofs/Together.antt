@@ -4,7 +4,7 @@ use Rattle.std.specs.Prelude.{map}
 use Rattle.std.specs.List.{AllByRecursion}
 use Rattle.cluster_model.specs.declared.entry.Entry.{Entry}
 use Rattle.mds_rule.specs.MdsStates.{MdsSend}
-use Rattle.mds_laws.specs.MdsRuns.{MdsEvent}
+use Rattle.mds_walk.specs.MdsRuns.{MdsEvent}
 use Rattle.mds_histories.specs.MdsHistory.{MdsItem, Comes, Enters, Sends}
 use Rattle.node_histories.specs.Weaves.{WeaveStep, Passes, Unseen, Seen, entries_in, items_in}
 use Rattle.node_histories.specs.NodeHistories.{IsEntryNext, AreTogether}

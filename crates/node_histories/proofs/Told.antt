@@ -7,7 +7,7 @@ use Rattle.cluster_model.specs.declared.entry.Entry.TheVariants.{Rebooted}
 use Rattle.client_state.specs.ClientStates.{ClientValue, fresh_client}
 use Rattle.client_laws.specs.ClientHistory.{ClientInput, input_step, items_of}
 use Rattle.mds_rule.specs.MdsStates.{MdsValue}
-use Rattle.mds_laws.specs.MdsRuns.{MdsEvent, after_event}
+use Rattle.mds_walk.specs.MdsRuns.{MdsEvent, after_event}
 use Rattle.mds_histories.specs.MdsHistory as mds
 use Rattle.world_rule.specs.Machines.{nth}
 use Rattle.world_rule.specs.ClusterWorlds.{ClusterState, verifier_after}

@@ -16,7 +16,7 @@ use Rattle.proper_servers.specs.ProperServers.{IsProper}
 use Rattle.device_addr.specs.Universal.{AddressValue}
 use Rattle.mds_rule.specs.MdsStates.{MdsSend, MdsValue, new_mds}
 use Rattle.mds_rule.specs.Spelled.{spelled_send}
-use Rattle.mds_laws.specs.MdsRuns.{MdsEvent, MdsInput, Hears, IsTimedOut, Ticks, RecallsFile, Resilvers, mds_run}
+use Rattle.mds_walk.specs.MdsRuns.{MdsEvent, MdsInput, Hears, IsTimedOut, Ticks, RecallsFile, Resilvers, mds_run}
 use Rattle.mds_histories.specs.MdsHistory.{MdsItem, Comes, Enters, Sends, mds_history}
 use Rattle.client_state.specs.declared.request.UserRequest.{UserRequest}
 use Rattle.client_state.specs.declared.request.UserRequest.TheVariants as request

@@ -67,7 +67,11 @@ pub fn put_cut<'a, F: Fn(&'a [u8]) -> Option<XdrError>>(
 }
 
 /// The value spells these bytes.
-fn is_spelled<'a, T: Wire<'a>>(value: &T, bytes: &[u8], alloc: Global) -> Result<bool, RowFault> {
+pub fn is_spelled<'a, T: Wire<'a>>(
+    value: &T,
+    bytes: &[u8],
+    alloc: Global,
+) -> Result<bool, RowFault> {
     if !value.fits() {
         return Ok(false);
     }

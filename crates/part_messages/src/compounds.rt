@@ -65,8 +65,16 @@ fn put_stop(stop: Option<Stop>, agrees: bool, answer: &mut Answer) -> Result<(),
     answer.flag(agrees)
 }
 
+/// The operation at which they stop is read and not carried out: `stop` of the whole compound goes on behind it.
+fn is_unserved(stop: Option<Stop>) -> bool {
+    matches!(
+        stop,
+        Some(Stop::Unread(3 | 21 | 26 | 31 | 32 | 34 | 45 | 52 | 55))
+    )
+}
+
 /// A compound: the tag, the minor version, the count and the operations; why they stop, and whether a second look,
-/// `stop` and `rest` say the same; the verdict, and whether the compound spells the bytes again.
+/// `stop`, where all are carried out, and `rest` say the same; the verdict, and whether the compound spells the bytes again.
 pub fn put_compound_row(bytes: &[u8], answer: &mut Answer) -> Result<(), RowFault> {
     let alloc = answer.alloc();
     let compound = match Compound::read(bytes) {
@@ -84,9 +92,10 @@ pub fn put_compound_row(bytes: &[u8], answer: &mut Answer) -> Result<(), RowFaul
     let ops = take_ops(alloc, compound.count(), &mut left)?;
     put_debug(&ops, answer)?;
     let stop = stop_of(&mut left);
+    let whole = compound.stop();
     let agrees = stop == stop_of(&mut left)
-        && stop == Some(compound.stop())
-        && stop.and_then(behind_stop) == compound.rest();
+        && (stop == Some(whole) || is_unserved(stop))
+        && behind_stop(whole) == compound.rest();
     put_stop(stop, agrees, answer)?;
     answer.state()?;
     put_verdict(judge_compound(bytes), answer)?;

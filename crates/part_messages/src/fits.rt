@@ -2,6 +2,7 @@
 
 use ff_xdr::{Items, Out, Wire};
 use nfs4_compound::OpRes;
+use nfs4_compound::nfs4_unserved_ops::UnservedRes;
 use nfs4_file_ops::{GetDeviceInfoRes, LayoutGetRes};
 use nfs4_types::{OpResult, Stat4};
 use row_words::{Answer, RowFault, Words, number32};
@@ -26,7 +27,7 @@ fn refused(words: &mut Words<'_>) -> Result<OpRes<'static>, RowFault> {
         "lookup" => Ok(OpRes::Lookup(OpResult::Refused(status(words)?))),
         "layout_get" => Ok(OpRes::LayoutGet(LayoutGetRes::Refused(status(words)?))),
         "get_device_info" => Ok(OpRes::GetDeviceInfo(GetDeviceInfoRes::Refused(status(words)?))),
-        "unbuilt" => Ok(OpRes::Unbuilt(words.number32()?, status(words)?)),
+        "unbuilt" => Ok(OpRes::Unserved(UnservedRes::Unbuilt(words.number32()?, status(words)?))),
         _ => Err(RowFault::Outside),
     }
 }

@@ -3,7 +3,7 @@
 use crate::asked::{Ask, put_message};
 use device_addr::FfDeviceAddr;
 use ff_layout::{FfLayout, LayoutReturnBody};
-use nfs4_compound::{CbOp, CbRes, Op, OpRes};
+use nfs4_compound::{AnyOp, CbOp, CbRes, Op, OpRes};
 use nfs4_types::{
     Bitmap, ChannelAttrs, DeviceId, Handle4, Sequence, SessionId, Stat4, Stateid, Time4,
 };
@@ -14,6 +14,7 @@ use rpc_record::AuthSys;
 pub fn put_form(form: &str, ask: Ask, longer: &[u8], answer: &mut Answer) -> Result<(), RowFault> {
     match form {
         "op" => put_message::<Op>(ask, longer, answer),
+        "anyop" => put_message::<AnyOp>(ask, longer, answer),
         "opres" => put_message::<OpRes>(ask, longer, answer),
         "cbop" => put_message::<CbOp>(ask, longer, answer),
         "cbres" => put_message::<CbRes>(ask, longer, answer),

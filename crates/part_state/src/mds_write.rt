@@ -4,6 +4,7 @@
 use crate::steps::{put_next, put_writer_step};
 use cluster_model::{MAX_FILE, PIECE_SIZE};
 use mds_io::MdsWrite;
+use mirror_writer::WriteBytes;
 use row_words::{Answer, Part, RowFault, Words};
 
 /// The write that is under way.
@@ -33,6 +34,7 @@ fn started(words: &mut Words<'_>) -> Result<MdsWrite, RowFault> {
     if count == 0 || count > u64::from(PIECE_SIZE) || at > MAX_FILE - count {
         return Err(RowFault::Outside);
     }
+    let bytes = WriteBytes::of(words.alloc(), &bytes)?;
     Ok(MdsWrite::start(words.alloc(), mirrors, cred, at, &bytes)?)
 }
 

@@ -5,7 +5,7 @@
 
 use crate::steps::{put_next, put_writer_step};
 use cluster_model::{MAX_FILE, Mirrors, PIECE_SIZE};
-use mirror_writer::{WriteStart, Writer};
+use mirror_writer::{WriteBytes, WriteStart, Writer};
 use row_words::{Answer, Part, RowFault, Words};
 
 /// A writer that is open, the mirrors that it was opened with, and how many writes it took.
@@ -71,6 +71,7 @@ fn put_write(
     if count == 0 || count > u64::from(PIECE_SIZE) || at > MAX_FILE - count {
         return Err(RowFault::Outside);
     }
+    let bytes = WriteBytes::of(words.alloc(), &bytes)?;
     match open.writer.write(at, &bytes) {
         WriteStart::Taken => {
             open.writes = open.writes.saturating_add(1);
@@ -90,6 +91,14 @@ fn put_taken(taken: Option<(u64, &[u8])>, answer: &mut Answer) -> Result<(), Row
             answer.number(at)?;
             answer.bytes(bytes)
         }
+    }
+}
+
+/// A write that was taken, lent as its own type.
+fn put_numbered(taken: Option<(u64, &WriteBytes)>, answer: &mut Answer) -> Result<(), RowFault> {
+    match taken {
+        None => put_taken(None, answer),
+        Some((at, bytes)) => put_taken(Some((at, bytes.bytes())), answer),
     }
 }
 
@@ -120,7 +129,7 @@ fn put_asked(
         }
         "write_numbered" => {
             let number = words.last_number32()? as usize;
-            put_taken(writer.write_numbered(number), answer)
+            put_numbered(writer.write_numbered(number), answer)
         }
         "covered_everywhere" => {
             answer.flag(writer.covered_everywhere(words.last_number32()? as usize))

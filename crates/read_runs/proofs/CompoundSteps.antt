@@ -39,7 +39,7 @@ use Rattle.mds_rule.specs.OpSteps.{OpStep, Goes, Ends, Waits, with_result, refus
 use Rattle.mds_rule.specs.ServedFiles.{takes_input}
 use Rattle.mds_rule.specs.Compounds.{operate, has_session, operates, compound_bytes, finishes, op_then, with_ops, runs, sequence_in, in_slot, sequenced, sequence_of, may_stand_alone, first_alone, first_by, first_operation, new_run, runs_compound}
 use Rattle.mds_rule.specs.Answers.{sized, fileid_of, attributes_shown, sees_in, sees_size, resumes, write_answer, write_ends, write_of, write_in, steps_write, write_stepped, failures_by_place, has_failed_everywhere, write_over, sees_ctime, recall_outcome, recalls_after, is_read_out, read_step_at, read_from, read_of, steps_read, timed_out_for}
-use Rattle.mds_laws.proofs.OpsWalk.{served_again}
+use Rattle.mds_walk.proofs.Served.{served_again}
 use Rattle.mds_histories.specs.MdsHistory.{MdsItem}
 use Rattle.read_runs.specs.ReadRuns.{HasNoRead}
 use Rattle.read_runs.proofs.LeavingMirrors.{failures_leave}

@@ -27,9 +27,9 @@ use Rattle.mds_rule.specs.Compounds.{runs_compound}
 use Rattle.mds_rule.specs.Answers.{is_awaited, takes_answer, timed_out_for}
 use Rattle.mds_rule.specs.Goes.{each, calls_out}
 use Rattle.mds_rule.specs.Events.{takes_incoming, late_call, is_kept_by, goes_again, times_out, takes_timeout, lease_ends, leases_end, recall_expires, recalls_expire, kept_calls, files_tick, forgets_calls, takes_tick}
-use Rattle.mds_laws.specs.MdsRuns.{MdsInput, MdsEvent, Hears, IsTimedOut, Ticks as IsTick, RecallsFile, Resilvers, by_input, after_event, run_from}
-use Rattle.mds_laws.proofs.Lists.{in_more}
-use Rattle.mds_laws.proofs.LateFound.{late_is}
+use Rattle.mds_walk.specs.MdsRuns.{MdsInput, MdsEvent, Hears, IsTimedOut, Ticks as IsTick, RecallsFile, Resilvers, by_input, after_event, run_from}
+use Rattle.mds_walk.proofs.Lists.{in_more}
+use Rattle.mds_walk.proofs.LateFound.{late_is}
 use Rattle.mds_histories.specs.MdsHistory.{MdsItem, Comes, Enters, Sends, items_of, mds_history, sends_in}
 use Rattle.mds_histories.proofs.Histories.{sends_joined}
 use Rattle.read_runs.specs.ReadRuns.{HearsInForm, AreInForm, ReadsInForm, EachReadIsAnswered}

@@ -35,7 +35,7 @@ use Rattle.mds_rule.specs.MdsStates.{WaitingRead, WaitingWrite, ServedFile, MdsS
 use Rattle.mds_rule.specs.declared.waiter.Waiter.{Waiter}
 use Rattle.mds_rule.specs.declared.waiter.Waiter.TheVariants.{ForFile, ForRead, ForWrite, ForRecall}
 use Rattle.mds_rule.specs.Goes.{xid_after, calls_server, OwnCall, own_of_file, own_of_write, own_by, place_of, own_call_at, own_next, has_xids, own_call, own_two, own_calls, read_goes, read_call, read_call_in, each, read_count, read_calls, stateid_seqid, calls_back, recall_goes, recall_call, repeats_call, repeats, place_calls, file_calls, calls_out}
-use Rattle.mds_laws.proofs.Lists.{found_in}
+use Rattle.mds_walk.proofs.Lists.{found_in}
 use Rattle.mds_histories.specs.MdsHistory.{MdsItem, Sends, sends_in}
 use Rattle.read_runs.proofs.LiveTold.{live_in_layout, FitsPhase}
 use Rattle.read_runs.proofs.WaitingReads.{IsWaitingFor, waits_out}

@@ -25,7 +25,7 @@ use Rattle.mds_io.specs.declared.read_end.Failure.{Failure}
 use Rattle.mds_io.specs.declared.read_end.ReadEnd.TheVariants as end
 use Rattle.mds_io.specs.Reads.{ReadState, ReadAfter, at_stage, in_turn, with_failure, goes_on, failed_with, fails, answered, after_reply, late, after_timeout}
 use Rattle.mds_rule.specs.MdsStates.{CompoundRun}
-use Rattle.mds_laws.specs.MdsRuns.{Hears}
+use Rattle.mds_walk.specs.MdsRuns.{Hears}
 use Rattle.mds_histories.specs.MdsHistory.{MdsItem, Comes, Enters}
 use Rattle.read_runs.specs.ReadRuns.{WasAsked, WasGiven}
 use Rattle.read_runs.proofs.WaitingReads.{asked_more, IsOut, IsInStage, IsWaitingFor, waits_more, waits_in, waits_failed}

@@ -32,7 +32,7 @@ use Rattle.mds_rule.specs.MdsStates.{CompoundRun, WaitingRead, ServedFile, MdsVa
 use Rattle.mds_rule.specs.OpSteps.{OpStep, with_result, at_object, refuses, refused_as, refused_or}
 use Rattle.mds_rule.specs.FileOps.{current_file, file_or_none, phase_or_free, put_object, read_ask, read_length, with_read, reads_at, reads_file}
 use Rattle.mds_rule.specs.Compounds.{has_session, operate, operates, finishes, op_then, with_ops, runs, sequence_in, in_slot, sequenced, first_operation, new_run, runs_compound}
-use Rattle.mds_laws.specs.MdsRuns.{Hears}
+use Rattle.mds_walk.specs.MdsRuns.{Hears}
 use Rattle.mds_histories.specs.MdsHistory.{MdsItem, Comes}
 use Rattle.read_runs.specs.ReadRuns.{ReadsFile}
 use Rattle.read_runs.proofs.HandleFiles.{same_handle}

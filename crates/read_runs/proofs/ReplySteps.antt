@@ -24,8 +24,8 @@ use Rattle.mds_rule.specs.declared.waiter.Waiter.{Waiter}
 use Rattle.mds_rule.specs.declared.waiter.Waiter.TheVariants.{ForFile, ForRead, ForWrite, ForRecall}
 use Rattle.mds_rule.specs.ServedFiles.{takes_input}
 use Rattle.mds_rule.specs.Answers.{is_awaited, fileid_of, attributes_shown, own_answer, sees_size, recall_end, server_answered, answered_as, answers_found, takes_answer}
-use Rattle.mds_laws.specs.MdsRuns.{Hears}
-use Rattle.mds_laws.proofs.Lists.{found_in, found_passes}
+use Rattle.mds_walk.specs.MdsRuns.{Hears}
+use Rattle.mds_walk.proofs.Lists.{found_in, found_passes}
 use Rattle.mds_histories.specs.MdsHistory.{MdsItem, Comes, Sends, sends_in}
 use Rattle.mds_histories.proofs.Histories.{sends_joined}
 use Rattle.read_runs.proofs.WaitingReads.{IsOut, IsWaitingFor}

@@ -9,7 +9,7 @@ use Rattle.rpc_record.specs.CallNumbers.{IsBelow}
 use Rattle.mds_rule.specs.MdsStates.{MdsSend, CallsServer, CallsBack, Replies, Answers, AwaitedCall, with_call}
 use Rattle.mds_rule.specs.Goes.{xid_after}
 use Rattle.mds_laws.specs.MdsRunLaws.{number_sent, AreBelow}
-use Rattle.mds_laws.proofs.Lists.{in_with_call, in_filtered}
+use Rattle.mds_walk.proofs.Lists.{in_with_call, in_filtered}
 use Rattle.mds_laws.proofs.Numbers.{WereSent, sent_more, sent_with, sent_kept, below_all, below_push, in_below, after_below}
 
 -- a call of a data server went out to that node

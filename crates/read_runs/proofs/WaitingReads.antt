@@ -24,9 +24,9 @@ use Rattle.nfs4_compound.specs.declared.stop.Stop.TheVariants as stop
 use Rattle.nfs4_compound.specs.Compounds.{CompoundValue}
 use Rattle.mds_rule.specs.MdsStates.{CompoundRun, MdsSend, CallsServer}
 use Rattle.mds_rule.specs.FileOps.{read_length}
-use Rattle.mds_laws.specs.MdsRuns.{Hears}
+use Rattle.mds_walk.specs.MdsRuns.{Hears}
 use Rattle.mds_laws.specs.MdsRunLaws.{number_sent}
-use Rattle.mds_laws.proofs.Lists.{in_more}
+use Rattle.mds_walk.proofs.Lists.{in_more}
 use Rattle.mds_histories.specs.MdsHistory.{MdsItem, Comes, Enters, Sends, entries_in, sends_in}
 use Rattle.mds_histories.proofs.Histories.{sends_joined}
 use Rattle.read_runs.specs.ReadRuns.{ReadsFile, EntersNoSwapOf, HasNone, HasSwap, StartsAt, WasAsked, HasFailedRead}

@@ -26,7 +26,7 @@ use Rattle.mds_receive.specs.MdsReceive.{IsReply, IsCompound, incoming_of}
 use Rattle.compound_reply.specs.Replied.{success_reply}
 use Rattle.mds_rule.specs.MdsStates.{MdsSend, CallsServer, Replies, new_mds}
 use Rattle.mds_rule.specs.FileOps.{read_length}
-use Rattle.mds_laws.specs.MdsRuns.{MdsInput, MdsEvent, Hears}
+use Rattle.mds_walk.specs.MdsRuns.{MdsInput, MdsEvent, Hears}
 use Rattle.mds_laws.specs.MdsRunLaws.{number_sent}
 use Rattle.mds_histories.specs.MdsHistory.{MdsItem, Comes, Enters, Sends, mds_history, entries_in, sends_in}
 

@@ -15,6 +15,7 @@ use Rattle.cluster_model.proofs.Elements.{slice_get-set_other, slice_get-set_sam
 use Rattle.copy_rule.specs.declared.copy_target.Target.{Target}
 use Rattle.copy_rule.specs.declared.copy_target.CopyTarget.{CopyTarget}
 use Rattle.copy_rule.specs.Copies.{CopyState, TargetStep, new_copy, to_make, with_target, with_read, with_piece, with_next, have_answered, at_stage, to_write, target_call, target_answered, target_late, target_fails, goes_on_with, is_long}
+use Rattle.copy_rule.proofs.ReadOn.{answered_of}
 use Rattle.resilver.specs.CopyLaws.{CopyMove, CopyNote, WasSent, WasAnswered, WasLate, HasTicked, CopyCallOut, was_sent, call_out, late_once, piece_in, was_lost, AreTargetsApart, copy_run}
 use Rattle.resilver.proofs.Lists.{not_equal, equal, apart, all_at, mapped_at, out_same, over_not_out, waits_not_out, waits_not_over, AfterSet, Here, There, after_set}
 use Rattle.resilver.proofs.Moves.{read_out, NotAtTarget, is_done, Cases, run_keeps}
@@ -293,7 +294,7 @@ stands_cases plan copier different c notes s =
     let turns = turn_cases c notes s.turn in
     record {
       sent = λ place x t fresh there waiting. record { turn = turns.sent place x t fresh there waiting; held = held_sent plan copier different c notes s.turn s.held place x t fresh there waiting };
-      reads = λ x fresh waiting all. record { turn = turns.reads x fresh waiting all; held = held_reads plan copier different c notes s.turn s.held x fresh waiting all };
+      reads = λ x fresh waiting may. record { turn = turns.reads x fresh waiting may; held = held_reads plan copier different c notes s.turn s.held x fresh waiting (answered_of c may) };
       answered = λ place x t reply there out. record { turn = turns.answered place x t reply there out; held = held_answered plan copier different c notes s.turn s.held place x t reply there out };
       late = λ place x t there out. record { turn = turns.late place x t there out; held = held_late plan copier different c notes s.turn s.held place x t there out };
       piece = λ x shown eof bytes away out fits. record { turn = turns.piece x shown eof bytes away out fits; held = held_piece plan copier different c notes s.turn s.held x shown eof bytes away out fits };

@@ -11,7 +11,7 @@ use Rattle.cluster_model.specs.DsCalls.{Read, DsReplyValue, Created, Set, Writte
 use Rattle.cluster_model.specs.Fences.{waits, is_out, is_over, stage_at_tick, odd_status}
 use Rattle.copy_rule.specs.declared.copy_target.CopyTarget.{CopyTarget}
 use Rattle.copy_rule.specs.declared.copy_target.CopyStep.TheVariants.{Waiting}
-use Rattle.copy_rule.specs.Copies.{CopyState, CopyCall, CopyAfter, TargetStep, with_target, with_read, with_piece, with_next, goes_on, have_answered, at_stage, target_call, target_call_at, call_from, waiting_at, next_call, target_of, target_answered, target_late, read_answered, read_late, is_long, source_fails, copy_then, stranger, step_at, step_from, by_read, on_reply, on_timeout}
+use Rattle.copy_rule.specs.Copies.{CopyState, CopyCall, CopyAfter, TargetStep, with_target, with_read, with_piece, with_next, goes_on, have_answered, may_read_on, at_stage, target_call, target_call_at, call_from, waiting_at, next_call, target_of, target_answered, target_late, read_answered, read_late, is_long, source_fails, copy_then, stranger, step_at, step_from, by_read, on_reply, on_timeout}
 use Rattle.resilver.specs.CopyLaws.{CopyMove, SendsOne, TakesReply, TakesTimeout, Ticks, CopyNote, WasSent, WasAnswered, WasLate, HasTicked, CopyRun, CopyCallOut, was_sent, sent_noted, copy_moved, Piece, piece_in}
 use Rattle.resilver.proofs.Lists.{found_at, none_at}
 
@@ -35,7 +35,7 @@ pub record Cases (P : CopyState → List CopyNote → Type 0) (c : CopyState) (n
   -- a call goes to a target, or to the source
   pub sent : (place x : ℕ) (t : CopyTarget) → was_sent notes x ≡ false → slice_get c.targets place ≡ Some t → waits t.stage ≡ true
       → P (with_target c place (at_stage t (Out x 0))) (WasSent t.server x (target_call c.copier c.at c.piece t.name t.made) ∷ notes)
-  pub reads : (x : ℕ) → was_sent notes x ≡ false → waits c.read ≡ true → have_answered c ≡ true → P (with_read c (Out x 0)) (WasSent c.source.server x (Read c.source.fileid c.at PIECE_SIZE) ∷ notes)
+  pub reads : (x : ℕ) → was_sent notes x ≡ false → waits c.read ≡ true → may_read_on c ≡ true → P (with_read c (Out x 0)) (WasSent c.source.server x (Read c.source.fileid c.at PIECE_SIZE) ∷ notes)
   -- an answer or a timeout at a target
   pub answered : (place x : ℕ) (t : CopyTarget) (reply : DsReplyValue) → slice_get c.targets place ≡ Some t → is_out x t.stage ≡ true
       → P (with_target c place (target_answered t reply t.made).target) (WasAnswered x reply ∷ notes)
@@ -82,14 +82,14 @@ module _ (P : CopyState → List CopyNote → Type 0) (cases : (c : CopyState) (
             subst (λ (o : Option CopyTarget). P (sent_noted (record { copy = c; notes = notes }) xid (target_call_at c xid place o)).copy (sent_noted (record { copy = c; notes = notes }) xid (target_call_at c xid place o)).notes)
             (sym there) ((cases c notes p).sent place xid t fresh there waiting)
 
-        by_read' : (b : Bool) → (waits c.read && have_answered c) ≡ b
+        by_read' : (b : Bool) → (waits c.read && may_read_on c) ≡ b
             → P (sent_noted (record { copy = c; notes = notes }) xid (cond b (Some (record { copy = with_read c (Out xid 0); server = c.source.server; uid = 0; call = Read c.source.fileid c.at PIECE_SIZE })) None)).copy
             (sent_noted (record { copy = c; notes = notes }) xid (cond b (Some (record { copy = with_read c (Out xid 0); server = c.source.server; uid = 0; call = Read c.source.fileid c.at PIECE_SIZE })) None)).notes
-        by_read' true is = let both = and_parts (waits c.read) (have_answered c) is in (cases c notes p).reads xid fresh both.0 both.1
+        by_read' true is = let both = and_parts (waits c.read) (may_read_on c) is in (cases c notes p).reads xid fresh both.0 both.1
         by_read' false is = p
 
         by_place : (o : Option ℕ) → waiting_at c ≡ o → P (sent_noted (record { copy = c; notes = notes }) xid (call_from c xid o)).copy (sent_noted (record { copy = c; notes = notes }) xid (call_from c xid o)).notes
-        by_place None is = by_read' (waits c.read && have_answered c) refl
+        by_place None is = by_read' (waits c.read && may_read_on c) refl
         by_place (Some place) is =
             let found = found_at (λ t. waits t.stage) c.targets place is in
             by_target place found.0 found.1 found.2

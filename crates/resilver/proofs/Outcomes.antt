@@ -180,7 +180,7 @@ none_zip plan copier notes (p ∷ ps) (t ∷ ts) z all =
     by_head (IsLeft m is left kept server holds) gone more = absurd (apart (is_given_up t.stage) gone left)
     by_head (IsLost none lost) gone more = ap (λ b. cond (not b) (p ∷ are_left ps notes) (are_left ps notes)) lost ∙ more
 
-given_up_over : (ts : List CopyTarget) → list_all (λ t. is_given_up t.stage) ts ≡ true → list_all (λ t. is_over t.stage) ts ≡ true
+pub given_up_over : (ts : List CopyTarget) → list_all (λ t. is_given_up t.stage) ts ≡ true → list_all (λ t. is_over t.stage) ts ≡ true
 given_up_over [] all = refl
 given_up_over (t ∷ ts) all =
     let both = and_parts (is_given_up t.stage) (list_all (λ k. is_given_up k.stage) ts) all in

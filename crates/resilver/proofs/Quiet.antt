@@ -17,7 +17,7 @@ use Rattle.copy_rule.specs.declared.copy_target.Target.{Target}
 use Rattle.copy_rule.specs.declared.copy_target.CopyTarget.{CopyTarget}
 use Rattle.copy_rule.specs.declared.copy_target.CopyStep.{CopyStep}
 use Rattle.copy_rule.specs.declared.copy_target.CopyStep.TheVariants.{Stranger, Waiting, SourceFailed, TargetFailed, Done as AllHold}
-use Rattle.copy_rule.specs.Copies.{CopyState, CopyCall, CopyAfter, TargetStep, with_target, with_read, with_piece, have_answered, has_outcome, step_told, copy_then, at_stage, target_call, target_caller, target_call_at, call_from, waiting_at, next_call, target_of, target_answered, target_late, target_fails, goes_on_with, read_answered, read_late, is_long, source_fails, stranger, stepped, step_at, step_from, by_read, on_reply, on_timeout}
+use Rattle.copy_rule.specs.Copies.{CopyState, CopyCall, CopyAfter, TargetStep, with_target, with_read, with_piece, may_read_on, has_outcome, step_told, copy_then, at_stage, target_call, target_caller, target_call_at, call_from, waiting_at, next_call, target_of, target_answered, target_late, target_fails, goes_on_with, read_answered, read_late, is_long, source_fails, stranger, stepped, step_at, step_from, by_read, on_reply, on_timeout}
 use Rattle.resilver.specs.Calls.{caller_of}
 use Rattle.resilver.specs.CopyLaws.{CopyMove, CopyNote, IsQuiet, copy_run}
 use Rattle.resilver.proofs.Lists.{apart, all_at, found_at, waits_not_over}
@@ -92,7 +92,7 @@ quiet_from c step reads other quiet (Some place) = by_target (slice_get c.target
     by_target (Some t) = silent (stepped c place (step t)) (told_so (with_target c place (step t).target) (step t).step (other t))
 
 -- where every target has answered none waits
-none_waits : (targets : List CopyTarget) → list_all (λ t. is_over t.stage) targets ≡ true → position (λ t. waits t.stage) targets ≡ None
+pub none_waits : (targets : List CopyTarget) → list_all (λ t. is_over t.stage) targets ≡ true → position (λ t. waits t.stage) targets ≡ None
 none_waits targets all = by_found (position (λ t. waits t.stage) targets) refl
   where
     by_found : (o : Option ℕ) → position (λ t. waits t.stage) targets ≡ o → o ≡ None
@@ -105,7 +105,7 @@ module _ (c : CopyState) (notes : List CopyNote) (turn : Turn c notes) (xid : �
   kept_quiet : (stage : CallStage) (cause : LeftCause) → is_out xid c.read ≡ true → waits stage ≡ false → IsQuiet (source_fails c stage cause)
   kept_quiet stage cause out kept = λ other is x.
       ap (call_from (with_read c stage) x) (none_waits c.targets (turn.asked xid out))
-      ∙ ap (λ (b : Bool). cond {A = Option CopyCall} (b && have_answered c) (Some (record { copy = with_read (with_read c stage) (Out x 0); server = c.source.server; uid = 0; call = Read c.source.fileid c.at PIECE_SIZE })) None) kept
+      ∙ ap (λ (b : Bool). cond {A = Option CopyCall} (b && may_read_on c) (Some (record { copy = with_read (with_read c stage) (Out x 0); server = c.source.server; uid = 0; call = Read c.source.fileid c.at PIECE_SIZE })) None) kept
 
   quiet_read : (reply : DsReplyValue) → is_out xid c.read ≡ true → IsQuiet (read_answered c reply)
   quiet_read (Bytes shown eof bytes) out =
@@ -162,5 +162,5 @@ callers c xid call is = by_place (waiting_at c) is
     by_test false is = absurd (none-some call is)
 
     by_place : (o : Option ℕ) → call_from c xid o ≡ Some call → call.uid ≡ caller_of c.copier call.call
-    by_place None is = by_test (waits c.read && have_answered c) is
+    by_place None is = by_test (waits c.read && may_read_on c) is
     by_place (Some place) is = by_target place (slice_get c.targets place) is

@@ -14,6 +14,7 @@ use Rattle.cluster_model.specs.Fences.{waits, is_out, is_over, stage_at_tick}
 use Rattle.copy_rule.specs.declared.copy_target.Target.{Target}
 use Rattle.copy_rule.specs.declared.copy_target.CopyTarget.{CopyTarget}
 use Rattle.copy_rule.specs.Copies.{CopyState, TargetStep, new_copy, to_make, with_target, with_read, with_piece, with_next, have_answered, at_stage, is_given_up, to_write, stage_for, target_call, target_answered, target_late, target_fails, goes_on_with, is_long}
+use Rattle.copy_rule.proofs.ReadOn.{answered_of}
 use Rattle.resilver.specs.CopyLaws.{CopyMove, CopyNote, WasSent, WasAnswered, WasLate, HasTicked, CopyCallOut, was_sent, call_out, late_once, Piece, piece_in, pieces_read, AreInTurn, copy_run, said_end}
 use Rattle.resilver.proofs.Lists.{equal, apart, all_at, mapped_at, out_same, over_not_out, waits_not_out, waits_not_over, AfterSet, Here, There, after_set}
 use Rattle.resilver.proofs.Moves.{read_out, NotAtTarget, is_done, Cases, IsUnfinished, run_keeps}
@@ -409,7 +410,7 @@ module _ (c : CopyState) (notes : List CopyNote) (turn : Turn c notes) where
 pub turn_cases : (c : CopyState) (notes : List CopyNote) → Turn c notes → Cases Turn c notes
 turn_cases c notes turn = record {
   sent = turn_sent c notes turn;
-  reads = turn_reads c notes turn;
+  reads = λ x fresh waiting may. turn_reads c notes turn x fresh waiting (answered_of c may);
   answered = turn_answered c notes turn;
   late = turn_late c notes turn;
   piece = turn_piece c notes turn;

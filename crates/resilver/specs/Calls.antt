@@ -1,5 +1,5 @@
 -- What the calls of a copy do.
-use Rattle.std.specs.Prelude.{◌≡◌, ◌≤◌, ℕ, Bool, ◌&&◌, List, [], ◌∷◌, length, map, filter, Option, Some, None, Result, Ok, Err, if◌then◌else◌}
+use Rattle.std.specs.Prelude.{◌≡◌, ◌≤◌, ℕ, List, [], ◌∷◌, length, map, filter, Option, Some, None, Result, Ok, Err, if◌then◌else◌}
 use Rattle.cluster_model.specs.declared.limits.TheConstants.{PIECE_SIZE}
 use Rattle.cluster_model.specs.declared.ds_call.DsCall.{DsCall}
 use Rattle.cluster_model.specs.DsCalls.{DsCallValue, Create, SetAttr, Write, Commit, Read, DsReplyValue, plain_ds_call, data_in}
@@ -7,7 +7,7 @@ use Rattle.cluster_model.specs.Fences.{waits}
 use Rattle.call_stage.specs.KeptCalls.{kept_out_to}
 use Rattle.ff_xdr.specs.declared.error.NoMemory.{NoMemory}
 use Rattle.copy_rule.specs.declared.copy_target.CopyStep.{CopyStep}
-use Rattle.copy_rule.specs.Copies.{CopyState, next_call, on_reply, have_answered, waiting_at}
+use Rattle.copy_rule.specs.Copies.{CopyState, next_call, on_reply, is_read_due, waiting_at}
 
 -- uid 0 makes files and reads; the copy's own uid writes
 abbrev pub caller_of : ℕ → DsCallValue → ℕ
@@ -34,10 +34,6 @@ TakesAnswer old xid reply (Ok step) new = record { copy = new; step = step } ≡
 TakesAnswer old xid reply (Err e) new = new ≡ old
 
 -- ---- what is under way
-
--- the READ of the source waits, and every target that is left has answered
-abbrev pub is_read_due : CopyState → Bool
-is_read_due c = waits c.read && have_answered c
 
 -- The servers to which a call waits, in order: those of the targets or, where it waits to none of them, that of the source.
 abbrev pub servers_from : CopyState → Option ℕ → List ℕ

@@ -11,7 +11,7 @@ use Rattle.cluster_model.specs.Content.{Pending, overlay}
 use Rattle.cluster_model.specs.DsCalls.{DsCallValue, Create, SetAttr, Write, Commit, Read, DsReplyValue, Created, Set, Written, Committed, Bytes, NotSync, Failed}
 use Rattle.copy_rule.specs.declared.copy_target.Target.{Target}
 use Rattle.copy_rule.specs.declared.copy_target.CopyStep.TheVariants.{SourceFailed}
-use Rattle.copy_rule.specs.Copies.{CopyState, CopyCall, CopyAfter, new_copy, next_call, on_reply, on_timeout, after_tick, outcome}
+use Rattle.copy_rule.specs.Copies.{CopyState, CopyCall, CopyAfter, new_copy, next_call, on_reply, on_timeout, after_tick, has_outcome, outcome}
 use Rattle.resilver.specs.Calls.{caller_of}
 
 -- ---- runs
@@ -305,4 +305,8 @@ pub record CopyLaw : Type 0 where
       → outcome (copy_run source plan copier moves).copy ≡ None → IsUnfinished plan copier (copy_run source plan copier moves).notes
   pub quiet_reply : (source : MirrorId) (plan : List Target) (copier : ℕ) (moves : List CopyMove) (xid : ℕ) (reply : DsReplyValue) → IsQuiet (on_reply (copy_run source plan copier moves).copy xid reply)
   pub quiet_timeout : (source : MirrorId) (plan : List Target) (copier : ℕ) (moves : List CopyMove) (xid : ℕ) → IsQuiet (on_timeout (copy_run source plan copier moves).copy xid)
+  -- an outcome stays, whatever comes, and nothing goes out once it is there, also where no target is left
+  pub outcome_stays : (source : MirrorId) (plan : List Target) (copier : ℕ) (before behind : List CopyMove) (targets : List SwappedIn)
+      → outcome (copy_run source plan copier before).copy ≡ Some targets → outcome (fold copy_moved (copy_run source plan copier before) behind).copy ≡ Some targets
+  pub quiet_outcome : (c : CopyState) (xid : ℕ) → has_outcome c ≡ true → next_call c xid ≡ None
   pub callers : (c : CopyState) (xid : ℕ) (call : CopyCall) → next_call c xid ≡ Some call → call.uid ≡ caller_of c.copier call.call

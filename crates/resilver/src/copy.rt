@@ -1,12 +1,12 @@
 //! A copy of one file.
 
-ghost use Rattle.std.specs.Prelude.{◌≡◌, ◌≤◌, ⊤, length, None, OnErr};
+ghost use Rattle.std.specs.Prelude.{◌≡◌, ◌≤◌, ⊤, true, length, None, OnErr};
 ghost use Rattle.std.specs.Borrow.{sem, follows_so};
 ghost use mathlib.Core.Option.{none};
 ghost use Rattle.cluster_model.specs.DsCalls.{plain_ds_call, plain_ds_reply, data_in, Bytes};
-ghost use Rattle.copy_rule.specs.Copies.{new_copy, has_outcome, goes_on, step_told, copy_then, source_fails, is_long, read_late, outcome, on_timeout, after_tick, is_outstanding};
+ghost use Rattle.copy_rule.specs.Copies.{new_copy, has_outcome, goes_on, step_told, copy_then, source_fails, is_long, read_late, outcome, on_timeout, after_tick, is_read_due, is_outstanding};
 ghost use Rattle.resilver.specs.contracts.copy.Copy.{the_row};
-ghost use Rattle.resilver.specs.Calls.{SendsCopyCall, LendsOnePiece, TakesAnswer, is_read_due, servers_waiting, kept_out};
+ghost use Rattle.resilver.specs.Calls.{SendsCopyCall, LendsOnePiece, TakesAnswer, servers_waiting, kept_out};
 ghost use Rattle.resilver.specs.Sends.{SendsBeforeLent, call_as, TakesRead, BringsPiece, AsksForPiece};
 
 use crate::call::{NextCall, SentCall, caller_for};
@@ -76,10 +76,12 @@ impl Copy {
     }
 
     /// The call that goes out next, and to which server: it is outstanding from now on under this number. `None` where none
-    /// waits. The first target to which a call waits comes first; the source is READ once every target that is left has
-    /// answered. No call of this number is outstanding before. Takes no memory.
+    /// waits, and once the copy has an outcome. The first target to which a call waits comes first; the source is READ once
+    /// every target that is left has answered. No call of this number is outstanding before. Takes no memory.
+    #[tactic(auto, using(crate::proofs::Ended::quiet_outcome))]
     pub fn next_call(&mut self, xid: u32) -> Option<(u32, DsCall<'_>)>
         ensures few { LendsOnePiece result }
+        ensures ended { has_outcome self.old ≡ true → result ≡ None }
         ensures* sends { sem 𝓛 (follows_so the_row the_row self.entry.ghost_name none (λ _ _. ⊤) (λ new. SendsCopyCall self.old xid result new)) }
     {
         let sent = self.send_next(xid)?;
@@ -136,11 +138,11 @@ impl Copy {
         }
     }
 
-    /// The READ of the source waits, and every target that is left has answered.
+    /// The READ of the source waits, every target that is left has answered, and the copy has no outcome.
     fn is_read_due(&self) -> bool
         ensures { result ≡ is_read_due self.now }
     {
-        waits(self.read) && are_over(self.targets.as_slice())
+        waits(self.read) && are_over(self.targets.as_slice()) && !self.has_outcome()
     }
 
     /// The servers to which a call waits, in order: the first is that of the next call. Takes no memory.

@@ -75,6 +75,13 @@ is_whole (Whole message rest) = true
 is_whole TooLong = false
 is_whole TooManyFragments = false
 
+-- how many bytes of a record are there: those of its fragments; a stream that is refused gathers no record
+abbrev pub held_of : Front → ℕ
+held_of (Open part) = length part.gathered
+held_of (Whole message rest) = length message
+held_of TooLong = 0
+held_of TooManyFragments = 0
+
 -- ---- what the calls of `Frames` do
 
 -- The stream gave these records in order, and this is the front of what stands behind them.

@@ -4,7 +4,7 @@ ghost use Rattle.std.specs.Prelude.{◌≡◌, ◌+◌, ◌≤◌, ◌<◌, ◌+
 ghost use Rattle.std.specs.Int.{w32, from_be_bytes};
 ghost use Rattle.std.specs.Option.{option_map};
 ghost use Rattle.ff_xdr.specs.Calls.{Puts};
-ghost use Rattle.rpc_record.specs.Frames.{front_of, max_record, record_bytes, HasGiven, Feeds, TakesOut, with_taken, Header, Open, TooLong, TooManyFragments};
+ghost use Rattle.rpc_record.specs.Frames.{front_of, max_record, record_bytes, held_of, HasGiven, Feeds, TakesOut, with_taken, Header, Open, TooLong, TooManyFragments};
 ghost use Rattle.rpc_record.specs.FramesView.{front_at, is_more, IsStage, IsInLimit, front_settled, front_behind, Steps, TakesSome, Gathers, answers};
 
 use ff_xdr::{NoMemory, Out};
@@ -269,6 +269,18 @@ impl Frames {
         let (taken, stage) = gather(&mut self.gathered, start, piece)?;
         self.stage = stage;
         answer(stage, taken)
+    }
+
+    /// So many bytes of the record that is gathered are there, at most `MAX_RECORD`: those of its fragments,
+    /// without their headers. A stream that is refused gathers none.
+    pub fn held(&self) -> usize
+        ensures told { result ≡ held_of self.now }
+        ensures limit { result ≤ max_record }
+    {
+        match self.stage {
+            Stage::TooLong | Stage::TooManyFragments => 0,
+            _ => self.gathered.len(),
+        }
     }
 
     /// Takes out the record that is whole, or nothing where none is; takes no memory.

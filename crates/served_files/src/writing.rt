@@ -1,13 +1,12 @@
 //! The metadata server's own WRITE of a file, whose compound waits for it.
 
-ghost use Rattle.std.specs.Prelude.{◌≡◌, ◌≤◌, ◌+◌, length, find, is_some, slice_get, OnOk, IfOk};
-ghost use Rattle.std.specs.List.{list_all};
+ghost use Rattle.std.specs.Prelude.{◌≡◌, ◌≤◌, ◌+◌, length, is_some, slice_get, OnOk, IfOk};
 ghost use Rattle.cluster_model.specs.declared.limits.TheConstants.{MAX_FILE, PIECE_SIZE};
 ghost use Rattle.cluster_model.specs.DsCalls.{plain_ds_reply};
 ghost use Rattle.mirror_writer.specs.Writers.{after_timeout};
 ghost use Rattle.mds_io.specs.OwnWrites.{after_own_reply, ended};
 ghost use Rattle.mds_rule.specs.FileOps.{new_write};
-ghost use Rattle.mds_rule.specs.Answers.{with_failed, is_failure_of, cause_at, cause_there, failures_by_place, has_failed_everywhere, write_stepped};
+ghost use Rattle.mds_rule.specs.Answers.{with_failed, cause_at, cause_there, failures_by_place, has_failed_everywhere, write_stepped};
 
 use cluster_model::{Cred, DsReply, LeftCause, Mirror, MirrorId, Mirrors};
 use compound_run::KeptRun;
@@ -111,8 +110,8 @@ impl WaitingWrite {
         requires within { at + length bytes.now ≤ MAX_FILE }
         ensures { IfOk result (λ w. w ≡ new_write compound live cred.0 at bytes.now) }
     {
-        let writer = MdsWrite::start(alloc, live, cred, at, bytes)?;
         let bytes = WriteBytes::of(alloc, bytes)?;
+        let writer = MdsWrite::start(alloc, live, cred, at, &bytes)?;
         Ok(WaitingWrite {
             compound,
             at,

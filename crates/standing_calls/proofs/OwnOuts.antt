@@ -9,7 +9,7 @@ use Rattle.cluster_model.specs.declared.fence_mirror.FenceMirror.{FenceMirror}
 use Rattle.cluster_model.specs.DsCalls.{Read}
 use Rattle.cluster_model.specs.Fences.{waits, FenceState, with_stage, waiting_at, fence_call_at, call_from}
 use Rattle.copy_rule.specs.declared.copy_target.CopyTarget.{CopyTarget}
-use Rattle.copy_rule.specs.Copies.{CopyState, have_answered}
+use Rattle.copy_rule.specs.Copies.{CopyState, may_read_on}
 use Rattle.copy_rule.specs.Copies as copy
 use Rattle.file_rule.specs.declared.creation.Creation.{Creation}
 use Rattle.file_rule.specs.MdsFiles.{Creations, Activity, Idle, Makes, Fences, Settles, Copies, MdsFile, in_stage}
@@ -58,7 +58,7 @@ module _ (f : MdsFile) (xid : ℕ) where
   }
 
   copy_goes : (c : CopyState) → Kind (Copies c) f.layout.phase → (o : Option ℕ) → MayGo xid (copy_spots c) f (copy_out f (copy.call_from c xid o))
-  copy_goes c kind None = by_test (waits c.read && have_answered c)
+  copy_goes c kind None = by_test (waits c.read && may_read_on c)
     where
       by_test : (b : Bool) → MayGo xid (copy_spots c) f (copy_out f (if b then Some (record { copy = copy.with_read c (Out xid 0); server = c.source.server; uid = 0; call = Read c.source.fileid c.at PIECE_SIZE }) else None))
       by_test true = record { place = 0; set = refl; kind = λ any. kind }

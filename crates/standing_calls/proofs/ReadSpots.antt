@@ -18,7 +18,7 @@ use Rattle.mds_io.specs.Reads.{ReadState, ReadAfter, ReadSends, new_read, in_tur
 use Rattle.mds_rule.specs.MdsStates.{CompoundRun, WaitingRead}
 use Rattle.mds_rule.specs.ServedFiles.{is_swap, begins_again, reads_behind}
 use Rattle.mds_rule.specs.Answers.{is_read_out}
-use Rattle.mds_laws.proofs.Lists.{AllOf, all_set, all_got}
+use Rattle.mds_walk.proofs.Lists.{AllOf, all_set, all_got}
 use Rattle.standing_calls.proofs.Spots.{Spot, is_number, has_number, is_spot_of, IsLeft, left_same, left_then, Less, Thin, thin_left, map_thin, push_thin, map_push, map_set, first_passes, remove_left, map_remove, map_any, any_same}
 use Rattle.standing_calls.proofs.OwnSpots.{number_of, out_number, item_left}
 use Rattle.standing_calls.proofs.OwnSteps.{Taken, item_gone, taken_then, out_is}

@@ -20,12 +20,12 @@ use Rattle.mds_rule.specs.declared.waiter.Waiter.TheVariants.{ForRecall}
 use Rattle.mds_rule.specs.ServedFiles.{is_period_end, file_behind, file_stepped}
 use Rattle.mds_rule.specs.Answers.{is_awaited_by, is_awaited, own_answer, recall_end}
 use Rattle.mds_rule.specs.Goes.{xid_after}
-use Rattle.mds_laws.specs.MdsRuns.{MdsEvent, mds_run}
+use Rattle.mds_walk.specs.MdsRuns.{MdsEvent, mds_run}
 use Rattle.mds_laws.specs.MdsRunLaws.{number_sent}
-use Rattle.mds_walk.proofs.Parts.{HeardAny, heard_by, end_input, without_write, Parts, Calls, KeepsBegin}
+use Rattle.mds_walk.proofs.Parts.{HeardAny, heard_by, end_input, without_write, Parts, Calls, KeepsBegin, AnyCompound, any_wait, RunParts, GivesAnswers, OutParts, EventParts}
 use Rattle.mds_walk.proofs.Lists.{found_in, found_passes}
 use Rattle.mds_walk.proofs.EventWalk.{in_each_run}
-use Rattle.mds_walk.proofs.TableKept.{IsTable, Table, table_parts, table_calls, new_table, next_is}
+use Rattle.mds_walk.proofs.TableKept.{IsTable, Table, table_parts, table_calls, new_table, next_is, table_runs, table_answers, table_outs}
 use Rattle.standing_calls.specs.RecallCalls.{CallbackStands, WasPassedOver, RecallCallsStand}
 use Rattle.standing_calls.proofs.Spots.{Spot, has_number, Once, not_both, is_off, IsLeft, number_set, out_once, got_number, map_get}
 use Rattle.standing_calls.proofs.Stands.{found_new}
@@ -231,41 +231,49 @@ stepped_recalls m file s step ss g =
 unnumbered : (calls : List AwaitedCall) (next : ℕ) (ss : List MdsSend) (xs : List Spot) (s : MdsSend) → number_sent s ≡ None → RecallsGood calls next ss xs → RecallsGood calls next (ss ++ s ∷ []) xs
 unnumbered calls next ss xs s none g = recalls_send calls next ss xs s (λ n p is. none-some n (sym none ∙ is)) (λ has n is. absurd (none-some n (sym none ∙ is))) g
 
-pub recalling_parts : Parts Recalling HeardAny
+pub recalling_parts : Parts Recalling HeardAny AnyCompound
 recalling_parts = record {
+  wait = λ m es ss j file s there. any_wait s.reads s.write;
   opens = λ m client file es ss j. j;
   closes = λ m client file es ss j. j;
-  confirmed = λ m client node es ss j. j;
   reclaims = λ m client es ss j. j;
   gone = λ m client es ss j. j;
   tables = λ m move no es ss j. j;
   asks_recall = λ m file s n recalled client now there held off es ss j. (j.0, recalls_left m.calls m.next_xid ss _ (recall_spots m.recalls) (asked_left (new_recall file s.file.layout.cred client now) refl m.recalls) j.1);
   times_recall = λ m xid out es ss j. (j.0, recalls_left m.calls m.next_xid ss _ (recall_spots m.recalls) (timed_left m.recalls xid) j.1);
   ticks_recalls = λ m now es ss j. (j.0, recalls_left m.calls m.next_xid ss _ (recall_spots m.recalls) (ticked_left m.recalls now) j.1);
-  finishes = λ m pass bytes es ss j. j;
-  replies = λ m node xid bytes es ss j. (table_parts.replies m node xid bytes es ss j.0, unnumbered m.calls m.next_xid ss (recall_spots m.recalls) _ refl j.1);
-  answers = λ m node bytes reply is es ss j. (table_parts.answers m node bytes reply is es ss j.0, unnumbered m.calls m.next_xid ss (recall_spots m.recalls) _ refl j.1);
   later = λ m file p es ss j. j;
   sizes = λ m file s server fileid size there es ss j. j;
   gives_again = λ m file s client there its es ss j. j;
   grants = λ m file s client n from there free left fresh es ss j. (table_parts.grants m file s client n from there free left fresh es ss j.0, stepped_recalls m file s (phase file s.file (AsksLayout n) m.fresh) ss j.1);
   grants_alone = λ m file s client n from there free left spent es ss j. j;
   inputs = λ m file s input unasked there fresh es ss j. (table_parts.inputs m file s input unasked there fresh es ss j.0, stepped_recalls m file s (phase file s.file input m.fresh) ss j.1);
-  returns = λ m file s errors there fresh es ss j.
-      (table_parts.returns m file s errors there fresh es ss j.0, stepped_recalls m file s (phase file s.file (Returns (client_number (holder_of s.file.layout.phase)) s.file.layout.cred (report_of errors s.file.layout.live)) m.fresh) ss j.1);
   timeouts = λ m file s node xid out there fresh es ss j. (table_parts.timeouts m file s node xid out there fresh es ss j.0, stepped_recalls m file s (phase file s.file (TimesOut xid) m.fresh) ss j.1);
   learns = λ m file s call server own uid c replies fileid shown heard caller sent named shows there fresh es ss j. j;
-  begins_read = λ m file s c at count there es ss j. j;
+  begins_read = λ m file s c at count any there es ss j. j;
   times_read = λ m file s xid place r at on es ss j. j;
   loses_read = λ m file s xid place r e at over es ss j. j;
-  begins_write = λ m file s c at bytes there can fresh es ss j. (table_parts.begins_write m file s c at bytes there can fresh es ss j.0, stepped_recalls m file s (phase file s.file (OwnWrite at bytes) m.fresh) ss j.1);
-  begins_alone = λ m file s c at bytes there can spent es ss j. j;
+  begins_write = λ m file s c at bytes any there can fresh es ss j. (table_parts.begins_write m file s c at bytes any there can fresh es ss j.0, stepped_recalls m file s (phase file s.file (OwnWrite at bytes) m.fresh) ss j.1);
+  begins_alone = λ m file s c at bytes any there can spent es ss j. j;
   times_write = λ m file s w xid there waits out es ss j. j;
   ends_write = λ m file s w places there waits over fresh es ss j.
       (table_parts.ends_write m file s w places there waits over fresh es ss j.0, stepped_recalls (with_served m file (without_write s)) file (without_write s) (phase file s.file (end_input s w) m.fresh) ss j.1);
   drops_write = λ m file s w places there waits over spent es ss j. j;
   makes = λ m name may es ss j. j;
 }
+
+pub recalling_runs : RunParts Recalling
+recalling_runs = record {
+  confirmed = λ m client node es ss j. j;
+  destroys = λ m session es ss j. j;
+  returns = λ m file s errors there fresh es ss j.
+      (table_runs.returns m file s errors there fresh es ss j.0, stepped_recalls m file s (phase file s.file (Returns (client_number (holder_of s.file.layout.phase)) s.file.layout.cred (report_of errors s.file.layout.live)) m.fresh) ss j.1);
+  replies = λ m node xid bytes es ss j. (table_runs.replies m node xid bytes es ss j.0, unnumbered m.calls m.next_xid ss (recall_spots m.recalls) _ refl j.1);
+  finishes = λ m pass bytes es ss j. j;
+}
+
+pub recalling_answers : GivesAnswers Recalling
+recalling_answers m node bytes reply is es ss j = (table_answers m node bytes reply is es ss j.0, unnumbered m.calls m.next_xid ss (recall_spots m.recalls) _ refl j.1)
 
 -- a call of a file is answered
 other_heard : (m : MdsValue) (ss : List MdsSend) (node : NodeId) (xid : ℕ) (call : AwaitedCall) (file : FileId) → Table m [] ss → find (is_call_to node xid) m.calls ≡ Some call → file_of call.caller ≡ Some file
@@ -299,7 +307,7 @@ sent_before m ss call was g = recalls_send m.calls m.next_xid ss (recall_spots m
 
 pub recalling_calls : Calls Recalling HeardAny
 recalling_calls = record {
-  fits = λ m es ss j. table_calls.fits m es ss j.0;
+  fits = λ m es ss j call inside. inl (j.0.waiters call inside);
   hears = λ m node xid file s call c replies heard its there out fresh es ss j.
       (table_calls.hears m node xid file s call c replies heard its there out fresh es ss j.0, stepped_recalls (heard_by node xid m) file s (phase file s.file (Answers xid (own_answer c (replies c))) m.fresh) ss (other_heard m ss node xid call file j.0 its.found (ap file_of its.waits) j.1));
   unheard = λ m node xid file s call c its there spent es ss j. (table_calls.unheard m node xid file s call c its there spent es ss j.0, other_heard m ss node xid call file j.0 its.found (ap file_of its.waits) j.1);
@@ -312,22 +320,30 @@ recalling_calls = record {
   hears_recall = λ m node xid status call found its out es ss j. (table_calls.hears_recall m node xid status call found its out es ss j.0, recall_heard m ss node xid status call j.0 found j.1);
   leaves = λ m node xid call inside its off es ss j. (table_calls.leaves m node xid call inside its off es ss j.0, leaves_so m ss node xid call j.0 inside its off j.1);
   forgets = λ m es ss j. (table_calls.forgets m es ss j.0, recalls_filter (is_awaited m) m.calls m.next_xid ss (recall_spots m.recalls) (λ call inside caller is. awaited_so m call caller is) j.1);
-  calls_file = λ m file s out there has idle its es ss j. (table_calls.calls_file m file s out there has idle its es ss j.0, other_goes m ss (recall_spots m.recalls) _ refl refl has j.1);
-  calls_write = λ m file s w out there has waits its es ss j. (table_calls.calls_write m file s w out there has waits its es ss j.0, other_goes m ss (recall_spots m.recalls) _ refl refl has j.1);
-  calls_read = λ m file s place r out there has at its es ss j. (table_calls.calls_read m file s place r out there has at its es ss j.0, other_goes m ss (recall_spots m.recalls) _ refl refl has j.1);
-  calls_back = λ m sent session has its es ss j.
-      let goes : RecallGoes m.recalls m.next_xid sent = recall_goes m.recalls m.next_xid sent its in
-      (table_calls.calls_back m sent session has its es ss j.0, recall_called m ss (recall_spots m.recalls) _ refl refl has j.1 (recall_spots sent.recalls) goes.place goes.set refl);
-  skips = λ m sent has its es ss j.
-      let goes : RecallGoes m.recalls m.next_xid sent = recall_goes m.recalls m.next_xid sent its in
-      (table_calls.skips m sent has its es ss j.0, recall_skipped m ss (recall_spots m.recalls) (recall_spots sent.recalls) goes.place goes.set has j.1);
   late = λ m call inside is es ss j. j;
   again = λ m call inside is es ss j. (table_calls.again m call inside is es ss j.0, sent_before m ss call (j.0.sent call inside) j.1);
-  repeats = λ m server xid call found es ss j. (table_calls.repeats m server xid call found es ss j.0, sent_before m ss call (j.0.sent call (found_in (is_call_to (Server server) xid) m.calls call found)) j.1);
+}
+
+pub recalling_outs : OutParts Recalling
+recalling_outs = record {
+  calls_file = λ m file s out there has idle its es ss j. (table_outs.calls_file m file s out there has idle its es ss j.0, other_goes m ss (recall_spots m.recalls) _ refl refl has j.1);
+  calls_write = λ m file s w out there has waits its es ss j. (table_outs.calls_write m file s w out there has waits its es ss j.0, other_goes m ss (recall_spots m.recalls) _ refl refl has j.1);
+  calls_read = λ m file s place r out there has at its es ss j. (table_outs.calls_read m file s place r out there has at its es ss j.0, other_goes m ss (recall_spots m.recalls) _ refl refl has j.1);
+  calls_back = λ m sent session has its es ss j.
+      let goes : RecallGoes m.recalls m.next_xid sent = recall_goes m.recalls m.next_xid sent its in
+      (table_outs.calls_back m sent session has its es ss j.0, recall_called m ss (recall_spots m.recalls) _ refl refl has j.1 (recall_spots sent.recalls) goes.place goes.set refl);
+  skips = λ m sent has its es ss j.
+      let goes : RecallGoes m.recalls m.next_xid sent = recall_goes m.recalls m.next_xid sent its in
+      (table_outs.skips m sent has its es ss j.0, recall_skipped m ss (recall_spots m.recalls) (recall_spots sent.recalls) goes.place goes.set has j.1);
+  back = λ m client es ss j. j;
+  repeats = λ m server xid call found es ss j. (table_outs.repeats m server xid call found es ss j.0, sent_before m ss call (j.0.sent call (found_in (is_call_to (Server server) xid) m.calls call found)) j.1);
 }
 
 pub recalling_begins : KeepsBegin Recalling
 recalling_begins m request now es ss j = j
+
+pub recalling_whole : EventParts Recalling HeardAny AnyCompound
+recalling_whole = record { parts = recalling_parts; runs = recalling_runs; any = λ c. tt; answers = recalling_answers; calls = recalling_calls; outs = recalling_outs; begins = recalling_begins }
 
 new_recalls : RecallsGood [] 1 [] []
 new_recalls = record { stand = λ n is. absurd (not_both (sym is)); below = λ has n is. absurd (not_both (sym is)); once = tt; sends = λ has s n inside is. absurd inside }
@@ -335,5 +351,5 @@ new_recalls = record { stand = λ n is. absurd (not_both (sym is)); below = λ h
 pub recalls_stand : (servers : List AddressValue) (mirrors : ℕ) (events : List MdsEvent) → RecallCallsStand (mds_run servers mirrors events)
 recalls_stand servers mirrors events place xid r at out =
     let run : MdsStep = mds_run servers mirrors events in
-    let j : Recalling run.mds run.entries run.sends = in_each_run Recalling recalling_parts recalling_calls recalling_begins (new_mds servers mirrors) events (new_table, new_recalls) in
+    let j : Recalling run.mds run.entries run.sends = in_each_run Recalling AnyCompound recalling_whole (new_mds servers mirrors) events (new_table, new_recalls) in
     j.1.stand xid (got_number xid (recall_spots run.mds.recalls) place (recall_spot r) (map_get recall_spot run.mds.recalls place r at) (sym (out_number xid r.stage) ∙ out))

@@ -1,5 +1,5 @@
 -- Each call that a file, a READ or an own write awaits stands through every part of every event.
-use Rattle.std.proofs.Common.{◌≡◌, ℕ, suc, ◌+◌, Bool, true, false, List, [], ◌∷◌, length, Option, Some, None, refl, sym, ap, subst, ◌∙◌, arith}
+use Rattle.std.proofs.Common.{◌≡◌, ℕ, suc, ◌+◌, Bool, true, false, List, [], ◌∷◌, length, Option, Some, None, refl, sym, ap, subst, ◌∙◌, arith, inl}
 use Rattle.std.specs.Prelude.{◌-◌, ◌==◌, ◌&&◌, not, map, remove, slice_get, slice_set, if◌then◌else◌, nat_lt}
 use Rattle.std.specs.List.{list_any}
 use Rattle.std.proofs.lemmas.Bool.{and_parts, ne_eqb, eq-eqb}
@@ -21,11 +21,11 @@ use Rattle.mds_rule.specs.declared.waiter.Waiter.TheVariants.{ForFile, ForRead, 
 use Rattle.mds_rule.specs.ServedFiles.{has_fresh, file_behind, file_stepped}
 use Rattle.mds_rule.specs.FileOps.{max_files, uids_left, servers_of, new_served, with_read, with_write}
 use Rattle.mds_rule.specs.Answers.{own_answer, write_stepped, is_read_out}
-use Rattle.mds_laws.specs.MdsRuns.{MdsEvent, mds_run}
-use Rattle.mds_walk.proofs.Parts.{HeardAny, IsReadAt, with_read_at, heard_by, end_input, without_write, Parts, Calls, KeepsBegin}
+use Rattle.mds_walk.specs.MdsRuns.{MdsEvent, mds_run}
+use Rattle.mds_walk.proofs.Parts.{HeardAny, IsReadAt, with_read_at, heard_by, end_input, without_write, Parts, Calls, KeepsBegin, AnyCompound, any_wait, RunParts, GivesAnswers, OutParts, EventParts}
 use Rattle.mds_walk.proofs.Served.{served_again, stepped_there}
 use Rattle.mds_walk.proofs.EventWalk.{in_each_run}
-use Rattle.mds_walk.proofs.TableKept.{Table, table_parts, table_calls, new_table}
+use Rattle.mds_walk.proofs.TableKept.{Table, table_parts, table_calls, new_table, table_runs, table_answers, table_outs}
 use Rattle.standing_calls.specs.Standing.{CallsStand, StandsTo}
 use Rattle.standing_calls.proofs.Spots.{Spot, is_at, has_at, not_both, left_same, AreNone, none_left, map_set, map_get, got_at, and_true, IsLeft, Once, first_passes, is_number}
 use Rattle.standing_calls.proofs.OwnSpots.{number_of, own_spots, out_number, outstanding_at, creation_spot}
@@ -36,7 +36,7 @@ use Rattle.standing_calls.proofs.WriteSpots.{write_spots, writer_spots, called_a
 use Rattle.standing_calls.proofs.FilesKept.{FileGood, Leaves, Hears, hears_own, hears_reads, hears_write, FilesIn, files_left, files_stepped, files_pushed, files_heard, files_unheard, files_leave, files_forget, files_called, spots_called, files_call, file_of}
 use Rattle.cluster_model.specs.declared.limits.TheConstants.{SPARE_UIDS}
 use Rattle.cluster_model.specs.DsCalls.{DsReplyValue}
-use Rattle.mds_laws.proofs.Lists.{all_got}
+use Rattle.mds_walk.proofs.Lists.{all_got}
 use Rattle.mds_progress.specs.FirstOut.{is_called_at}
 use Rattle.mds_rule.specs.LayoutOps.{client_number, with_holder}
 use Rattle.cluster_model.specs.Phases.{holder_of}
@@ -120,20 +120,17 @@ new_good m name file =
       kind = tt;
     }
 
-pub standing_parts : Parts Standing HeardAny
+pub standing_parts : Parts Standing HeardAny AnyCompound
 standing_parts = record {
+  wait = λ m es ss j file s there. any_wait s.reads s.write;
   opens = λ m client file es ss j. j;
   closes = λ m client file es ss j. j;
-  confirmed = λ m client node es ss j. j;
   reclaims = λ m client es ss j. j;
   gone = λ m client es ss j. j;
   tables = λ m move no es ss j. j;
   asks_recall = λ m file s n recalled client now there held off es ss j. j;
   times_recall = λ m xid out es ss j. j;
   ticks_recalls = λ m now es ss j. j;
-  finishes = λ m pass bytes es ss j. j;
-  replies = λ m node xid bytes es ss j. (table_parts.replies m node xid bytes es ss j.0, j.1);
-  answers = λ m node bytes reply is es ss j. (table_parts.answers m node bytes reply is es ss j.0, j.1);
   later = λ m file p es ss j. j;
   sizes = λ m file s server fileid size there es ss j. (j.0, λ fresh. files_left m file s _ there (same_calls m.calls file s _ refl refl refl) (j.1 fresh));
   gives_again = λ m file s client there its es ss j. (j.0, λ fresh. files_left m file s _ there (same_calls m.calls file s (with_holder client true s) refl refl refl) (j.1 fresh));
@@ -149,14 +146,11 @@ standing_parts = record {
   grants_alone = λ m file s client n from there free left spent es ss j. (j.0, λ fresh. absurd (not_both (sym fresh ∙ spent)));
   inputs = λ m file s input unasked there fresh es ss j.
       (table_parts.inputs m file s input unasked there fresh es ss j.0, λ any. input_stands m file s input there (itself_next file s.file m.fresh input (unasked_itself input unasked)) (j.1 fresh));
-  returns = λ m file s errors there fresh es ss j.
-      let input : FileInput = Returns (client_number (holder_of s.file.layout.phase)) s.file.layout.cred (report_of errors s.file.layout.live) in
-      (table_parts.returns m file s errors there fresh es ss j.0, λ any. input_stands m file s input there (itself_next file s.file m.fresh input refl) (j.1 fresh));
   timeouts = λ m file s node xid out there fresh es ss j.
       (table_parts.timeouts m file s node xid out there fresh es ss j.0, λ any. input_stands m file s (TimesOut xid) there (late_next file s.file m.fresh xid) (j.1 fresh));
   learns = λ m file s call server own uid c replies fileid shown heard caller sent named shows there fresh es ss j.
       (j.0, λ any. input_stands m file s (Sees (record { server = server; fileid = fileid }) shown.seen) there (sees_next file s.file m.fresh (record { server = server; fileid = fileid }) shown.seen) (j.1 fresh));
-  begins_read = λ m file s c at count there es ss j. (
+  begins_read = λ m file s c at count any there es ss j. (
     j.0,
     λ fresh. files_left m file s (with_read c at count s) there
         (λ g. record {
@@ -169,16 +163,16 @@ standing_parts = record {
   );
   times_read = λ m file s xid place r at on es ss j. (j.0, λ fresh. files_left m file s _ at.there (read_leaves m.calls file s xid place r at.at) (j.1 fresh));
   loses_read = λ m file s xid place r e at over es ss j. (j.0, λ fresh. files_left m file s _ at.there (gone_leaves m.calls file s place r at.at) (j.1 fresh));
-  begins_write = λ m file s c at bytes there can fresh es ss j.
+  begins_write = λ m file s c at bytes any there can fresh es ss j.
       let step : FileStep = phase file s.file (OwnWrite at bytes) m.fresh in
       let x : MdsValue = (file_stepped m file s step).mds in
       let t : ServedFile = file_behind s step in (
-        table_parts.begins_write m file s c at bytes there can fresh es ss j.0,
+        table_parts.begins_write m file s c at bytes any there can fresh es ss j.0,
         λ any.
             files_left x file t (with_write c at bytes t) (stepped_there m file s step there) (write_leaves x.calls file t _ (new_left c t.file.layout.live t.file.layout.cred.0 at bytes (write_spots t.write)))
             (input_stands m file s (OwnWrite at bytes) there (itself_next file s.file m.fresh (OwnWrite at bytes) refl) (j.1 fresh)),
       );
-  begins_alone = λ m file s c at bytes there can spent es ss j. (j.0, λ fresh. absurd (not_both (sym fresh ∙ spent)));
+  begins_alone = λ m file s c at bytes any there can spent es ss j. (j.0, λ fresh. absurd (not_both (sym fresh ∙ spent)));
   times_write = λ m file s w xid there waits out es ss j.
       (j.0, λ fresh. files_left m file s _ there (write_leaves m.calls file s _ (stepped_write s w (write_stepped w (writer.after_timeout w.writer xid)) waits (write_late w.writer xid))) (j.1 fresh));
   ends_write = λ m file s w places there waits over fresh es ss j.
@@ -192,6 +186,20 @@ standing_parts = record {
   makes = λ m name may es ss j.
       (j.0, λ any. files_pushed m _ (new_good m name) (j.1 (and_parts (nat_lt (length m.files) max_files && not (nat_lt (uids_left m) SPARE_UIDS)) (has_fresh m.fresh) may).1));
 }
+
+pub standing_runs : RunParts Standing
+standing_runs = record {
+  confirmed = λ m client node es ss j. j;
+  destroys = λ m session es ss j. j;
+  returns = λ m file s errors there fresh es ss j.
+      let input : FileInput = Returns (client_number (holder_of s.file.layout.phase)) s.file.layout.cred (report_of errors s.file.layout.live) in
+      (table_runs.returns m file s errors there fresh es ss j.0, λ any. input_stands m file s input there (itself_next file s.file m.fresh input refl) (j.1 fresh));
+  replies = λ m node xid bytes es ss j. (table_runs.replies m node xid bytes es ss j.0, j.1);
+  finishes = λ m pass bytes es ss j. j;
+}
+
+pub standing_answers : GivesAnswers Standing
+standing_answers m node bytes reply is es ss j = (table_answers m node bytes reply is es ss j.0, j.1)
 
 -- ---- an answer
 
@@ -227,7 +235,7 @@ write_heard m xid call file s w reply is waits g =
 
 pub standing_calls : Calls Standing HeardAny
 standing_calls = record {
-  fits = λ m es ss j. table_calls.fits m es ss j.0;
+  fits = λ m es ss j call inside. inl (j.0.waiters call inside);
   hears = λ m node xid file s call c replies heard its there out fresh es ss j.
       let step : FileStep = phase file s.file (Answers xid (own_answer c (replies c))) m.fresh in (
         table_calls.hears m node xid file s call c replies heard its there out fresh es ss j.0,
@@ -253,9 +261,15 @@ standing_calls = record {
   hears_recall = λ m node xid status call found its out es ss j. (table_calls.hears_recall m node xid status call found its out es ss j.0, λ fresh. files_unheard m node xid call found its (j.1 fresh));
   leaves = λ m node xid call inside its off es ss j. (table_calls.leaves m node xid call inside its off es ss j.0, λ fresh. files_leave m ss node xid call j.0 inside its off (j.1 fresh));
   forgets = λ m es ss j. (table_calls.forgets m es ss j.0, λ fresh. files_forget m (j.1 fresh));
+  late = λ m call inside is es ss j. j;
+  again = λ m call inside is es ss j. (table_calls.again m call inside is es ss j.0, j.1);
+}
+
+pub standing_outs : OutParts Standing
+standing_outs = record {
   calls_file = λ m file s out there has idle its es ss j.
       let c : AwaitedCall = record { node = Server out.server; xid = m.next_xid; caller = ForFile file; sent = CallsServer out.server m.next_xid out.uid out.call } in (
-        table_calls.calls_file m file s out there has idle its es ss j.0,
+        table_outs.calls_file m file s out there has idle its es ss j.0,
         λ fresh.
             files_call m ss j.0 has c refl file s (record s { file = out.file }) there
             (λ g h.
@@ -270,7 +284,7 @@ standing_calls = record {
       );
   calls_write = λ m file s w out there has waits its es ss j.
       let c : AwaitedCall = record { node = Server out.id.server; xid = m.next_xid; caller = ForWrite file; sent = CallsServer out.id.server m.next_xid w.writer.cred out.call } in (
-        table_calls.calls_write m file s w out there has waits its es ss j.0,
+        table_outs.calls_write m file s w out there has waits its es ss j.0,
         λ fresh.
             files_call m ss j.0 has c refl file s (record s { write = Some (record w { writer = out.writer }) }) there
             (λ g h.
@@ -287,7 +301,7 @@ standing_calls = record {
   calls_read = λ m file s place r out there has at its es ss j.
       let c : AwaitedCall = record { node = Server out.id.server; xid = m.next_xid; caller = ForRead file; sent = CallsServer out.id.server m.next_xid 0 out.call } in
       let t : WaitingRead = record { compound = r.compound; read = out.read } in (
-        table_calls.calls_read m file s place r out there has at its es ss j.0,
+        table_outs.calls_read m file s place r out there has at its es ss j.0,
         λ fresh.
             files_call m ss j.0 has c refl file s (with_read_at s place r out.read) there
             (λ g h.
@@ -301,15 +315,17 @@ standing_calls = record {
               kind = h.kind;
             }) (j.1 fresh),
       );
-  calls_back = λ m sent session has its es ss j. (table_calls.calls_back m sent session has its es ss j.0, λ fresh. files_called m ss j.0 has _ refl (j.1 fresh));
-  skips = λ m sent has its es ss j. (table_calls.skips m sent has its es ss j.0, j.1);
-  late = λ m call inside is es ss j. j;
-  again = λ m call inside is es ss j. (table_calls.again m call inside is es ss j.0, j.1);
-  repeats = λ m server xid call found es ss j. (table_calls.repeats m server xid call found es ss j.0, j.1);
+  calls_back = λ m sent session has its es ss j. (table_outs.calls_back m sent session has its es ss j.0, λ fresh. files_called m ss j.0 has _ refl (j.1 fresh));
+  skips = λ m sent has its es ss j. (table_outs.skips m sent has its es ss j.0, j.1);
+  back = λ m client es ss j. j;
+  repeats = λ m server xid call found es ss j. (table_outs.repeats m server xid call found es ss j.0, j.1);
 }
 
 pub standing_begins : KeepsBegin Standing
 standing_begins m request now es ss j = j
+
+pub standing_whole : EventParts Standing HeardAny AnyCompound
+standing_whole = record { parts = standing_parts; runs = standing_runs; any = λ c. tt; answers = standing_answers; calls = standing_calls; outs = standing_outs; begins = standing_begins }
 
 new_files : (calls : List AwaitedCall) → FilesIn calls []
 new_files calls file s is = absurd (none-some s (sym (none_served (file.0 == 0)) ∙ is))
@@ -345,7 +361,7 @@ write_stands m file s g w waits server xid out = g.write.stand server xid (ap (�
 pub calls_stand : (servers : List AddressValue) (mirrors : ℕ) (events : List MdsEvent) → has_fresh (mds_run servers mirrors events).mds.fresh ≡ true → CallsStand (mds_run servers mirrors events).mds
 calls_stand servers mirrors events fresh =
     let m : MdsValue = (mds_run servers mirrors events).mds in
-    let j : Standing m (mds_run servers mirrors events).entries (mds_run servers mirrors events).sends = in_each_run Standing standing_parts standing_calls standing_begins (new_mds servers mirrors) events (new_table, λ any. new_files []) in
+    let j : Standing m (mds_run servers mirrors events).entries (mds_run servers mirrors events).sends = in_each_run Standing AnyCompound standing_whole (new_mds servers mirrors) events (new_table, λ any. new_files []) in
     let good : (place : ℕ) (s : ServedFile) → slice_get m.files place ≡ Some s → FileGood m.calls (numbered (suc place)) s = λ place s is. j.1 fresh (numbered (suc place)) s (at_place m place s is) in
     record {
       files = λ place s is. own_stands m (numbered (suc place)) s (good place s is);

@@ -3,7 +3,7 @@
 ghost use Rattle.std.specs.Prelude.{ℕ, List, true, ◌≡◌};
 ghost use Rattle.device_addr.specs.Universal.{AddressValue};
 ghost use Rattle.mds_rule.specs.ServedFiles.{has_fresh};
-ghost use Rattle.mds_laws.specs.MdsRuns.{MdsEvent, mds_run};
+ghost use Rattle.mds_walk.specs.MdsRuns.{MdsEvent, mds_run};
 ghost use Rattle.standing_calls.specs.RecallCalls.{RecallCallsStand};
 ghost use Rattle.standing_calls.specs.Standing.{CallsStand};
 

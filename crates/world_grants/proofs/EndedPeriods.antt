@@ -13,8 +13,8 @@ use Rattle.mds_file_calls.specs.declared.layout_return.FailedMirror.{FailedMirro
 use Rattle.mds_calls.specs.MdsCalls as slot
 use Rattle.mds_calls.specs.MdsReplies.{MdsAnswerValue, Returned, Refused}
 use Rattle.mds_rule.specs.MdsStates.{MdsValue, new_mds}
-use Rattle.mds_laws.specs.MdsRuns.{MdsEvent, after_event, run_from}
-use Rattle.mds_laws.proofs.Lists.{in_more}
+use Rattle.mds_walk.specs.MdsRuns.{MdsEvent, after_event, run_from}
+use Rattle.mds_walk.proofs.Lists.{in_more}
 use Rattle.mds_replies.specs.ClientCalls.{HearsCall, AreCalls, server_after, IsEventOf}
 use Rattle.mds_replies.specs.LayoutReplies.{HasPeriod, EntersEnd}
 use Rattle.mds_replies.specs.AnsweredRequests.{StaysRoomy, MeansSo, ReturnsSo, NamesNone, bad_stateid}

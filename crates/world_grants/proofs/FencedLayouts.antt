@@ -14,7 +14,7 @@ use Rattle.nfs4_types.specs.declared.ids.SessionId.{SessionId}
 use Rattle.mds_file_calls.specs.declared.grant.LayoutGrant.{LayoutGrant}
 use Rattle.mds_calls.specs.MdsCalls.{OnSlot}
 use Rattle.mds_rule.specs.MdsStates.{MdsValue, new_mds}
-use Rattle.mds_laws.specs.MdsRuns.{MdsEvent, run_from}
+use Rattle.mds_walk.specs.MdsRuns.{MdsEvent, run_from}
 use Rattle.mds_histories.specs.MdsHistory as of_mds
 use Rattle.mds_histories.specs.MdsHistory.{MdsItem}
 use Rattle.mds_histories.proofs.Histories.{entries_of_run}

@@ -13,7 +13,7 @@ use Rattle.table_slots.specs.TableSlots.{is_of_session}
 use Rattle.mds_calls.specs.MdsCalls.{SlotCallValue, ask_on_slot}
 use Rattle.mds_calls.specs.MdsReplies.{MdsAnswerValue, reply_of_ask}
 use Rattle.mds_rule.specs.MdsStates.{MdsValue}
-use Rattle.mds_laws.specs.MdsRuns.{MdsEvent}
+use Rattle.mds_walk.specs.MdsRuns.{MdsEvent}
 use Rattle.mds_replies.specs.ClientCalls.{IsEventOf}
 use Rattle.mds_replies.specs.SlotReplies.{TookEffect, EffectsAreNumbered, count_taken}
 use Rattle.mds_replies.specs.LayoutReplies.{PeriodsAreOwn, PeriodsGoOn, PeriodsEnd}

@@ -5,7 +5,7 @@ use Rattle.world_rule.specs.ClusterWorlds.{ClusterState}
 use Rattle.nfs4_types.specs.declared.ids.SessionId.{SessionId}
 use Rattle.mds_calls.specs.MdsCalls.{MdsCallValue, OnSlot, SlotCallValue}
 use Rattle.mds_calls.specs.MdsReplies.{MdsReplyValue}
-use Rattle.mds_laws.specs.MdsRuns.{MdsEvent}
+use Rattle.mds_walk.specs.MdsRuns.{MdsEvent}
 use Rattle.mds_replies.specs.ClientCalls.{IsEventOf}
 use Rattle.mds_replies.specs.SlotReplies.{TookEffect}
 use Rattle.mds_replies.specs.AnsweredRequests.{StaysRoomy, TookEffectAmong}

@@ -9,7 +9,7 @@ use Rattle.table_slots.specs.TableSlots.{is_of_session}
 use Rattle.mds_calls.specs.MdsCalls.{MdsCallValue, OnSlot, SlotCallValue, ask_of, ask_on_slot, takes_slot}
 use Rattle.mds_calls.specs.MdsReplies.{MdsReplyValue, reply_of_ask}
 use Rattle.mds_calls.specs.MdsCalls as slot
-use Rattle.mds_laws.specs.MdsRuns.{MdsEvent, Hears}
+use Rattle.mds_walk.specs.MdsRuns.{MdsEvent, Hears}
 use Rattle.mds_replies.specs.AnsweredRequests.{StaysRoomy, IsRefusedWith, TookEffectAmong}
 use Rattle.mds_reports.specs.SlotReports.{AgreesWith, AgreesRead, CameAlone}
 use Rattle.client_laws.specs.ClientHistory.{HistoryItem, HasItem}

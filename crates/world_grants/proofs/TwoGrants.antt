@@ -16,7 +16,7 @@ use Rattle.mds_calls.specs.declared.reply.SlotReport.TheVariants.{Taken, Uncache
 use Rattle.mds_calls.specs.MdsCalls.{MdsCallValue, OnSlot, SlotCallValue}
 use Rattle.mds_calls.specs.MdsCalls as slot
 use Rattle.mds_calls.specs.MdsReplies.{MdsAnswerValue, MdsReplyValue, Granted, Returned, Refused}
-use Rattle.mds_laws.specs.MdsRuns.{MdsEvent}
+use Rattle.mds_walk.specs.MdsRuns.{MdsEvent}
 use Rattle.mds_replies.specs.ClientCalls.{server_after, IsEventOf}
 use Rattle.mds_replies.specs.LayoutReplies.{HasPeriod}
 use Rattle.mds_replies.specs.SlotReplies.{TookEffect}

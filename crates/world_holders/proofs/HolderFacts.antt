@@ -8,7 +8,7 @@ use Rattle.cluster_model.specs.declared.entry.Entry.{Entry}
 use Rattle.device_addr.specs.Universal.{AddressValue}
 use Rattle.device_addr.specs.declared.net_addr.NetAddr.{NetAddr}
 use Rattle.mds_file_calls.specs.declared.open.OpenFile.{OpenFile}
-use Rattle.mds_laws.specs.MdsRuns.{MdsEvent}
+use Rattle.mds_walk.specs.MdsRuns.{MdsEvent}
 use Rattle.mds_laws.specs.OwnPeriods.{RunsOwnPeriods}
 use Rattle.mds_histories.specs.MdsHistory.{MdsItem, Comes, Enters as MdsEnters, Sends as MdsSends}
 use Rattle.client_state.specs.declared.layout.Layout.{Layout}

@@ -17,7 +17,7 @@ use Rattle.cluster_laws.specs.FenceLaw.{live_in}
 use Rattle.world_rule.specs.ClusterWorlds.{ClusterState}
 use Rattle.client_laws.specs.ClientHistory as client
 use Rattle.mds_rule.specs.MdsStates.{new_mds}
-use Rattle.mds_laws.specs.MdsRuns.{after_event, run_from, mds_run}
+use Rattle.mds_walk.specs.MdsRuns.{after_event, run_from, mds_run}
 use Rattle.mds_histories.specs.MdsHistory.{MdsItem, Enters, Sends, mds_history}
 use Rattle.mds_histories.proofs.Histories.{mds_after}
 use Rattle.mds_histories.proofs.Places.{IsOfEvent, of_event, IsEntryOf, entry_of}

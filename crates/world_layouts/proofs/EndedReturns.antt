@@ -33,9 +33,9 @@ use Rattle.mds_calls.specs.MdsCalls.{MdsCallValue, OnSlot}
 use Rattle.mds_calls.specs.MdsCalls as slot
 use Rattle.mds_calls.specs.MdsReplies.{MdsAnswerValue, MdsReplyValue, Returned, reply_of_ask}
 use Rattle.mds_rule.specs.MdsStates.{MdsValue, new_mds}
-use Rattle.mds_laws.specs.MdsRuns.{MdsEvent, after_event, run_from, mds_run}
+use Rattle.mds_walk.specs.MdsRuns.{MdsEvent, after_event, run_from, mds_run}
 use Rattle.mds_laws.specs.MdsRunLaws.{grants_uid, GrantsUidsOnce}
-use Rattle.mds_laws.proofs.Lists.{Split, split_in}
+use Rattle.mds_walk.proofs.Lists.{Split, split_in}
 use Rattle.mds_replies.specs.ClientCalls.{server_after}
 use Rattle.mds_replies.specs.LayoutReplies.{HasPeriod}
 use Rattle.mds_replies.proofs.Periods.{entries_behind}

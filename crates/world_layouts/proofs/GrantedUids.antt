@@ -10,7 +10,7 @@ use Rattle.mds_calls.specs.declared.ask.MdsAsk.TheVariants as ask
 use Rattle.mds_calls.specs.MdsCalls.{MdsCallValue, OnSlot}
 use Rattle.mds_calls.specs.MdsCalls as slot
 use Rattle.mds_calls.specs.MdsReplies.{MdsAnswerValue, MdsReplyValue, Granted, reply_of_ask}
-use Rattle.mds_laws.specs.MdsRuns.{MdsEvent}
+use Rattle.mds_walk.specs.MdsRuns.{MdsEvent}
 use Rattle.mds_replies.specs.ClientCalls.{HearsCall, AreCalls, server_after, IsEventOf}
 use Rattle.mds_replies.specs.SlotReplies.{TookEffect}
 use Rattle.mds_replies.specs.LayoutReplies.{HasPeriod, PeriodsAreOwn}

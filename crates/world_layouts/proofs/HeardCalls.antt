@@ -14,7 +14,7 @@ use Rattle.cluster_model.specs.declared.entry.Entry.TheVariants as entry
 use Rattle.world_rule.specs.ClusterWorlds.{ClusterState}
 use Rattle.nfs4_compound.specs.Args.{argop4}
 use Rattle.nfs4_compound.specs.Compounds.{CompoundValue}
-use Rattle.nfs4_compound.specs.Laws.{AreGivenWhole}
+use Rattle.nfs4_compound.specs.Laws.{AreServedWhole}
 use Rattle.mds_receive.specs.MdsReceive.{IsAnswered, IsCompound, of_reply, incoming_of}
 use Rattle.mds_receive.specs.MdsReceiveLaws.{HasCallRecord, compound_with, IsTakenWhole}
 use Rattle.mds_calls.specs.FittingCalls.{FitsAsked}
@@ -22,7 +22,7 @@ use Rattle.mds_calls.specs.MdsCalls.{MdsCallValue}
 use Rattle.mds_calls.specs.MdsCompounds.{mds_ops, mds_call_bytes}
 use Rattle.mds_calls.specs.MdsCallLaws.{MdsMessage, HasCompoundRecord, IsCompoundUnderstood, compound_message_call}
 use Rattle.mds_rule.specs.MdsStates.{MdsStep, new_mds}
-use Rattle.mds_laws.specs.MdsRuns.{MdsInput, MdsEvent, Hears, IsTimedOut, Ticks, RecallsFile, Resilvers, after_event}
+use Rattle.mds_walk.specs.MdsRuns.{MdsInput, MdsEvent, Hears, IsTimedOut, Ticks, RecallsFile, Resilvers, after_event}
 use Rattle.mds_histories.specs.MdsHistory.{MdsItem, Comes, Enters, Sends, mds_history}
 use Rattle.mds_histories.proofs.Histories.{history_on}
 use Rattle.mds_replies.specs.ClientCalls.{IsCallIn, HearsCall, AreCalls, server_after, IsEventOf}
@@ -53,7 +53,7 @@ use Rattle.world_layouts.proofs.LifeSends.{LifeSteps, SaysThen, SaysReply, SaysC
 pub record CompoundLaws : Type 0 where
   pub spelled : EachRunIsSpelled
   pub numbered : EachRunIsNumbered
-  pub given : AreGivenWhole argop4
+  pub given : AreServedWhole
   pub asks : (m : MdsMessage) → IsCompoundUnderstood m
   pub replies : (r : RpcReply) → IsReplyReadAgain r
   pub spells : (bytes : List ℕ) (r : RpcReply) → IsReplySpelledSo bytes r

@@ -3,7 +3,7 @@ use Rattle.std.proofs.Common.{◌≡◌, List, [], ◌∷◌, ◌++◌, refl, sy
 use Rattle.std.specs.Prelude.{map}
 use Rattle.cluster_model.specs.declared.entry.Entry.{Entry}
 use Rattle.mds_rule.specs.MdsStates.{MdsSend, MdsValue, MdsStep}
-use Rattle.mds_laws.specs.MdsRuns.{MdsEvent, after_event}
+use Rattle.mds_walk.specs.MdsRuns.{MdsEvent, after_event}
 use Rattle.mds_histories.specs.MdsHistory.{MdsItem, Comes, Enters, Sends, items_of, mds_history}
 use Rattle.mds_histories.proofs.Histories.{mds_after}
 use Rattle.world_reads.proofs.Steps.{Splits, Longer, Shorter, splits}

@@ -16,9 +16,8 @@ use Rattle.mds_calls.specs.declared.reply.SlotReport.TheVariants.{Taken, Uncache
 use Rattle.mds_calls.specs.MdsCalls.{MdsCallValue, ExchangeId, CreateSession, OnSlot, SlotCallValue}
 use Rattle.mds_calls.specs.MdsReplies.{MdsReplyValue, Session}
 use Rattle.mds_calls.specs.MdsReplies as says_of
-use Rattle.mds_laws.specs.MdsRuns.{MdsEvent}
-use Rattle.mds_replies.specs.ClientCalls.{IsCallFrom, AreCalls, server_after, IsEventOf}
-use Rattle.mds_replies.specs.ClientCalls.{HearsCall}
+use Rattle.mds_walk.specs.MdsRuns.{MdsEvent}
+use Rattle.mds_replies.specs.ClientCalls.{IsCallFrom, AreCalls, server_after, IsEventOf, HearsCall}
 use Rattle.mds_replies.specs.SlotReplies.{count_taken}
 use Rattle.mds_replies.specs.ClientIds.{GivesId, GivesSession}
 use Rattle.mds_replies.specs.AnsweredRequests.{HearsFitCall, AreFitCalls, StaysRoomy, StandsByReport, StandsFor, TookEffectAmong, IsFreeAt, IsRefusedWith, IsUnknown, HasNoSession, IsOutOfOrder}

@@ -15,7 +15,7 @@ use Rattle.mds_calls.specs.MdsCalls.{MdsCallValue, ExchangeId, CreateSession, On
 use Rattle.mds_calls.specs.MdsCalls as slot
 use Rattle.mds_calls.specs.MdsCompounds.{mds_ops}
 use Rattle.mds_calls.specs.MdsCallLaws.{HasCompoundRecord}
-use Rattle.mds_laws.specs.MdsRuns.{MdsEvent}
+use Rattle.mds_walk.specs.MdsRuns.{MdsEvent}
 use Rattle.mds_replies.specs.ClientCalls.{IsCallFrom, IsEventOf}
 use Rattle.client_laws.specs.ClientHistory.{HistoryItem, HasItem}
 use Rattle.client_laws.proofs.Orders.{in_more}

@@ -7,7 +7,7 @@ use Rattle.mds_calls.specs.declared.reply.SlotReport.{SlotReport}
 use Rattle.mds_calls.specs.declared.reply.SlotReport.TheVariants.{Taken}
 use Rattle.mds_calls.specs.MdsCalls.{OnSlot, SlotCallValue}
 use Rattle.mds_calls.specs.MdsReplies.{MdsAnswerValue, MdsReplyValue}
-use Rattle.mds_laws.specs.MdsRuns.{MdsEvent}
+use Rattle.mds_walk.specs.MdsRuns.{MdsEvent}
 use Rattle.mds_replies.specs.ClientCalls.{IsCallFrom, IsEventOf}
 use Rattle.mds_replies.specs.SlotReplies.{TookEffect}
 use Rattle.client_laws.specs.ClientHistory.{HistoryItem, HasItem}

@@ -15,7 +15,7 @@ use Rattle.nfs4_session.specs.Clients.{client_in}
 use Rattle.mds_calls.specs.MdsCalls.{MdsCallValue, ExchangeId, CreateSession, OnSlot, SlotCallValue}
 use Rattle.mds_calls.specs.MdsReplies.{MdsReplyValue, Session}
 use Rattle.mds_calls.specs.MdsReplies as says_of
-use Rattle.mds_laws.specs.MdsRuns.{MdsEvent}
+use Rattle.mds_walk.specs.MdsRuns.{MdsEvent}
 use Rattle.mds_replies.specs.ClientCalls.{IsEventOf}
 use Rattle.mds_replies.specs.ClientIds.{GivesId, IdsAreOwn, SessionsAreOwn}
 use Rattle.client_state.specs.ClientStates.{client_name}

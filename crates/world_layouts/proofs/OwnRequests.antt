@@ -13,8 +13,8 @@ use Rattle.table_slots.specs.TableSlots.{is_of_session}
 use Rattle.nfs4_compound.specs.Compounds.{CompoundValue}
 use Rattle.mds_calls.specs.MdsCalls.{MdsCallValue, ExchangeId, CreateSession, OnSlot, SlotCallValue}
 use Rattle.mds_calls.specs.MdsCompounds.{mds_ops}
-use Rattle.mds_laws.specs.MdsRuns.{MdsEvent}
-use Rattle.mds_laws.specs.SlotUses.{first_request}
+use Rattle.mds_walk.specs.MdsRuns.{MdsEvent}
+use Rattle.mds_walk.specs.FirstRequests.{first_request}
 use Rattle.mds_replies.specs.ClientCalls.{IsCallFrom, IsEventOf}
 use Rattle.mds_replies.specs.SlotReplies.{request_of}
 use Rattle.client_state.specs.ClientStates.{client_name}

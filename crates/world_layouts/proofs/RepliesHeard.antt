@@ -16,7 +16,7 @@ use Rattle.world_rule.specs.ClusterWorlds.{ClusterState}
 use Rattle.compound_reply.specs.Replied.{success_reply}
 use Rattle.mds_rule.specs.MdsStates.{MdsSend, CallsServer, CallsBack, Replies, Answers, new_mds}
 use Rattle.mds_rule.specs.Spelled.{spelled_send}
-use Rattle.mds_laws.specs.MdsRuns.{MdsEvent, Hears, after_event}
+use Rattle.mds_walk.specs.MdsRuns.{MdsEvent, Hears, after_event}
 use Rattle.mds_histories.specs.MdsHistory.{MdsItem, Comes, Enters, Sends, mds_history}
 use Rattle.mds_replies.specs.ClientCalls.{server_after, IsEventOf}
 use Rattle.node_histories.specs.Weaves.{WeaveStep, Seen, entries_in, items_in}

@@ -28,7 +28,7 @@ use Rattle.mds_calls.specs.MdsCalls.{MdsCallValue, OnSlot, SlotCallValue}
 use Rattle.mds_calls.specs.MdsCalls as slot
 use Rattle.mds_calls.specs.MdsCompounds.{mds_ops, slot_ops}
 use Rattle.mds_rule.specs.MdsStates.{MdsValue, new_mds}
-use Rattle.mds_laws.specs.MdsRuns.{MdsEvent, after_event, run_from, mds_run}
+use Rattle.mds_walk.specs.MdsRuns.{MdsEvent, after_event, run_from, mds_run}
 use Rattle.mds_histories.specs.MdsHistory.{MdsItem, Comes, Enters, mds_history}
 use Rattle.mds_histories.specs.MdsHistory as of_mds
 use Rattle.mds_histories.proofs.Histories.{entries_joined, entries_entered, entries_of_run}

@@ -11,7 +11,7 @@ use Rattle.cluster_model.specs.declared.entry.Entry.TheVariants as entry
 use Rattle.cluster_laws.specs.Agreement.{cause_in, causes_of}
 use Rattle.world_rule.specs.ClusterWorlds.{ClusterState}
 use Rattle.mds_rule.specs.Spelled.{spelled_send}
-use Rattle.mds_laws.specs.MdsRuns.{MdsEvent}
+use Rattle.mds_walk.specs.MdsRuns.{MdsEvent}
 use Rattle.mds_histories.specs.MdsHistory.{MdsItem, Comes, Enters, Sends}
 use Rattle.mds_histories.specs.MdsHistory as of_mds
 use Rattle.node_histories.specs.Weaves.{IsEntry, IsUnseen, WeaveStep, Passes, Unseen, Seen, entries_in, items_in, IsSendingOf, StandsInWeave}

@@ -10,7 +10,7 @@ use Rattle.cluster_model.specs.declared.entry.Entry.TheVariants as entry
 use Rattle.cluster_laws.specs.FenceLaw.{live_in}
 use Rattle.world_rule.specs.ClusterWorlds.{ClusterState}
 use Rattle.mds_rule.specs.MdsStates.{MdsSend, MdsValue, new_mds}
-use Rattle.mds_laws.specs.MdsRuns.{MdsEvent, after_event, run_from, mds_run}
+use Rattle.mds_walk.specs.MdsRuns.{MdsEvent, after_event, run_from, mds_run}
 use Rattle.mds_histories.specs.MdsHistory.{MdsItem, Comes, Enters, Sends, mds_history}
 use Rattle.mds_histories.specs.MdsHistory as of_mds
 use Rattle.mds_histories.proofs.Histories.{entries_joined, entries_entered, entries_sent, entries_of_run, mds_after}

@@ -21,7 +21,7 @@ use Rattle.mds_calls.specs.MdsCalls.{MdsCallValue, ExchangeId, CreateSession, On
 use Rattle.mds_calls.specs.MdsCalls as slot
 use Rattle.mds_calls.specs.MdsCompounds.{mds_ops}
 use Rattle.mds_rule.specs.MdsStates.{ServedFile}
-use Rattle.mds_laws.specs.MdsRuns.{MdsEvent, mds_run}
+use Rattle.mds_walk.specs.MdsRuns.{MdsEvent, mds_run}
 use Rattle.mds_replies.specs.ClientCalls.{AreCalls, server_after, IsEventOf}
 use Rattle.mds_replies.specs.LayoutReplies.{HasPeriod}
 use Rattle.client_state.specs.ClientStates.{client_name}

@@ -12,7 +12,7 @@ use Rattle.machine_moves.specs.MachineGoesOn.{MachineGoesOn}
 use Rattle.machine_moves.proofs.Going.{goes_quiet, goes_then}
 use Rattle.machine_moves.proofs.Packets.{goes_keep}
 use Rattle.mds_rule.specs.MdsStates.{MdsSend}
-use Rattle.mds_laws.proofs.Lists.{AllOf}
+use Rattle.mds_walk.proofs.Lists.{AllOf}
 use Rattle.mds_moves.specs.MdsMoves.{IsMdsOf}
 use Rattle.proper_servers.specs.ProperServers.{IsProper}
 use Rattle.world_rule.specs.Machines.{MachinesValue, Act}

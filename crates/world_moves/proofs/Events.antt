@@ -28,8 +28,8 @@ use Rattle.client_laws.specs.ClientHistory.{ClientInput, Requested, Recorded, Ti
 use Rattle.client_sends.specs.SendsOfUsers.{IsUserSend, is_user_entry, SendsAsUser, EntersAsUser}
 use Rattle.mds_rule.specs.MdsStates.{ServedFile, MdsSend, MdsStep, served, numbered}
 use Rattle.mds_rule.specs.Spelled.{spelled_send}
-use Rattle.mds_laws.specs.MdsRuns.{MdsEvent, Hears, IsTimedOut, Ticks, RecallsFile, Resilvers, after_event}
-use Rattle.mds_laws.proofs.Lists.{in_more, all_in}
+use Rattle.mds_walk.specs.MdsRuns.{MdsEvent, Hears, IsTimedOut, Ticks, RecallsFile, Resilvers, after_event}
+use Rattle.mds_walk.proofs.Lists.{in_more, all_in}
 use Rattle.mds_moves.specs.MdsMoves.{IsReached, IsSentIn, MayComeTo, GoesOnBy, MdsGoesOn}
 use Rattle.packet_table.specs.declared.note.PacketNote.{PacketNote}
 use Rattle.packet_table.specs.Packets.{packet_numbered, number_between}

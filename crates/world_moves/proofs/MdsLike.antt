@@ -11,7 +11,7 @@ use Rattle.cluster_laws.specs.Machine.{Machine, fresh_of}
 use Rattle.machine_moves.specs.MachineMoves.{KeepsPackets}
 use Rattle.machine_moves.proofs.Packets.{still_called, still_answered}
 use Rattle.mds_rule.specs.MdsStates.{MdsSend, CallsServer, CallsBack, Replies, Answers, MdsValue}
-use Rattle.mds_laws.proofs.Lists.{AllOf}
+use Rattle.mds_walk.proofs.Lists.{AllOf}
 use Rattle.mds_moves.specs.MdsMoves.{IsSentIn, IsMdsOf, WasAnswered, IsSendAnswered, MayComeFrom}
 use Rattle.world_moves.specs.WorldMoves.{IsFromServer, IsCarried, IsEntryCarried}
 use Rattle.world_moves.proofs.ServerMoves.{IsLike}

@@ -14,7 +14,7 @@ use Rattle.cluster_laws.specs.FenceLaw.{new_servers}
 use Rattle.cluster_laws.specs.Telling.{telling}
 use Rattle.mds_rule.specs.MdsStates.{MdsSend}
 use Rattle.mds_rule.specs.Spelled.{spelled_send}
-use Rattle.mds_laws.proofs.Lists.{AllOf}
+use Rattle.mds_walk.proofs.Lists.{AllOf}
 use Rattle.mds_forms.specs.Forms.{IsInForm}
 use Rattle.mds_moves.specs.MdsMoves.{IsMdsOf, MayComeFrom}
 use Rattle.user_records.specs.UserRecords.{IsUserRecord}

@@ -22,14 +22,14 @@ use Rattle.same_server.specs.SameServer.{DoesTheCall}
 use Rattle.ds_calls.specs.DsCallLaws.{DsMessage, HasRecord, IsUnderstood}
 use Rattle.nfs4_types.specs.Handles.{file_handle_of}
 use Rattle.nfs4_compound.specs.Args.{argop4}
-use Rattle.nfs4_compound.specs.Laws.{AreGivenWhole}
+use Rattle.nfs4_compound.specs.Laws.{AreServedWhole}
 use Rattle.mds_receive.specs.MdsReceive.{IsCompound, incoming_of}
 use Rattle.mds_calls.specs.MdsCalls.{MdsCallValue}
 use Rattle.mds_calls.specs.MdsCompounds.{mds_call_bytes}
 use Rattle.mds_calls.specs.MdsCallLaws.{MdsMessage, HasCompoundRecord, IsCompoundUnderstood, compound_record_of, compound_message_call}
 use Rattle.mds_rule.specs.FileOps.{read_length}
 use Rattle.mds_rule.specs.MdsStates.{MdsValue, Replies}
-use Rattle.mds_laws.specs.MdsRuns.{MdsEvent}
+use Rattle.mds_walk.specs.MdsRuns.{MdsEvent}
 use Rattle.mds_laws.specs.MdsRunLaws.{NumbersAscend, NumbersFit}
 use Rattle.mds_histories.specs.MdsHistory.{MdsItem, Comes, Enters, Sends}
 use Rattle.mds_histories.specs.MdsHistory as of_mds
@@ -63,7 +63,7 @@ use Rattle.world_reads.proofs.ReadCauses.{replied_first, handle_some, cause_told
 pub record ReadLaws : Type 0 where
   pub spelled : EachRunIsSpelled
   pub numbered : EachRunIsNumbered
-  pub given : AreGivenWhole argop4
+  pub given : AreServedWhole
   pub asks : (m : MdsMessage) → IsCompoundUnderstood m
   pub calls : (m : DsMessage) → IsUnderstood m
   pub replies : (r : RpcReply) → IsReplyReadAgain r

@@ -17,7 +17,7 @@ use Rattle.mds_rule.specs.FileOps.{read_length}
 use Rattle.mds_rule.specs.MdsStates.{MdsSend, CallsServer}
 use Rattle.mds_rule.specs.Spelled.{mds_name, spelled_send}
 use Rattle.mds_laws.specs.MdsRunLaws.{number_sent, FitsNumber}
-use Rattle.mds_laws.proofs.Lists.{in_more}
+use Rattle.mds_walk.proofs.Lists.{in_more}
 use Rattle.mds_histories.specs.MdsHistory.{MdsItem, Sends, sends_in}
 use Rattle.mds_histories.proofs.Histories.{sends_joined}
 use Rattle.node_histories.specs.Weaves.{WeaveStep, Seen, entries_in, items_in}

@@ -9,14 +9,14 @@ use Rattle.rpc_record.specs.Calls.{RpcCall, call_at}
 use Rattle.cluster_model.specs.declared.ids.FileId.{FileId}
 use Rattle.nfs4_compound.specs.Args.{argop4}
 use Rattle.nfs4_compound.specs.Compounds.{CompoundValue, compound_at}
-use Rattle.nfs4_compound.specs.Laws.{AreGivenWhole}
+use Rattle.nfs4_compound.specs.Laws.{AreServedWhole}
 use Rattle.mds_receive.specs.MdsReceive.{IsCompound, incoming_of}
 use Rattle.mds_receive.specs.MdsReceiveLaws.{compound_with}
 use Rattle.mds_calls.specs.MdsCompounds.{mds_ops}
 use Rattle.mds_calls.specs.MdsCallLaws.{MdsMessage, HasCompoundRecord, IsReadAsCompound, compound_record_of, compound_message_call}
 use Rattle.read_runs.specs.ReadRuns.{ReadsFile, ReadsInForm}
 use Rattle.world_reads.proofs.ReadRecords.{HasCompoundCall, compound_call}
-use Rattle.world_reads.proofs.WholeArguments.{compound_whole}
+use Rattle.mds_receive.proofs.WholeCompounds.{compound_whole}
 use Rattle.world_reads.proofs.ClientCompounds.{ops_in_form}
 
 abbrev fine : RpcCall → Result RpcCall CallFault
@@ -36,7 +36,7 @@ pub record IsTakenAs (m : MdsMessage) (xid : ℕ) (v : CompoundValue) : Type 0 w
   pub number : m.xid ≡ xid
   pub compound : compound_with [] (mds_ops m.owner m.call) ≡ v
 
-module _ (given : AreGivenWhole argop4) where
+module _ (given : AreServedWhole) where
   pub taken_as : (m : MdsMessage) → IsReadAsCompound m → (xid : ℕ) (v : CompoundValue) → incoming_of (compound_record_of m) ≡ IsCompound xid v → IsTakenAs m xid v
   taken_as m read xid v is =
       let c : HasCompoundCall (compound_record_of m) xid v = compound_call (compound_record_of m) xid v is in

@@ -8,7 +8,6 @@ pub mod RunForms
 pub mod SilentClients
 pub mod Lives
 pub mod LifeRecords
-pub mod WholeArguments
 pub mod ClientForms
 pub mod LifeCalls
 pub mod WorldClients

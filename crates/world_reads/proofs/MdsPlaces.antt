@@ -10,7 +10,7 @@ use Rattle.cluster_laws.proofs.Lists.{all_split}
 use Rattle.world_rule.specs.ClusterWorlds.{ClusterState}
 use Rattle.mds_rule.specs.MdsStates.{MdsSend}
 use Rattle.mds_rule.specs.Spelled.{spelled_send}
-use Rattle.mds_laws.specs.MdsRuns.{MdsEvent, Hears}
+use Rattle.mds_walk.specs.MdsRuns.{MdsEvent, Hears}
 use Rattle.mds_histories.specs.MdsHistory.{MdsItem, Comes, Enters, Sends, sends_in}
 use Rattle.node_histories.specs.Weaves.{ItemShown, IsUnseen, IsArrival, IsEntry, IsSending, WeaveStep, Passes, Unseen, Seen, entries_in, items_in, HasPacket, IsSendingOf, IsShownAs, AreWoven, StandsInWeave}
 use Rattle.node_histories.specs.NodeHistories.{mds_shown, is_client_entry, is_mds_entry, is_server_entry, is_world_entry, Origin, EnteredByClient, EnteredByMds, EnteredByServer, EnteredByWorld, SentByClient, SentByMds, SentByServer, IsToldByNodes}

@@ -10,7 +10,7 @@ use Rattle.cluster_model.specs.declared.entry.Entry.TheVariants as entry
 use Rattle.cluster_laws.specs.FenceLaw.{live_by, live_after}
 use Rattle.world_rule.specs.ClusterWorlds.{ClusterState}
 use Rattle.mds_rule.specs.Spelled.{spelled_send}
-use Rattle.mds_laws.specs.MdsRuns.{MdsInput, MdsEvent, Hears, IsTimedOut, Ticks, RecallsFile, Resilvers}
+use Rattle.mds_walk.specs.MdsRuns.{MdsInput, MdsEvent, Hears, IsTimedOut, Ticks, RecallsFile, Resilvers}
 use Rattle.mds_histories.specs.MdsHistory.{MdsItem, Comes, Enters, Sends}
 use Rattle.mds_histories.specs.MdsHistory as of_mds
 use Rattle.node_histories.specs.Weaves.{ItemShown, IsUnseen, IsEntry, WeaveStep, Passes, Unseen, Seen, entries_in, items_in, IsSendingOf, IsShownAs, AreWoven, StandsInWeave}

@@ -53,7 +53,7 @@ counted_is : (own xid : ℕ) (c v : CompoundValue) → counted own c ≡ IsCompo
 counted_is own xid c v is =
     let version = refused (c.minorversion == 1) _ _ (IsCompound xid v) (λ is. absurd cc) is in
     let count = otherwise (nat_lt 16 c.count) _ _ (IsCompound xid v) (λ is. absurd cc) version.1 in
-    walked_is own xid c v (rest_of_stop c.ops.stop) count.1
+    walked_is own xid c v (rest_of_stop c.stop) count.1
 
 head_is : (own xid : ℕ) (r : Result CompoundValue XdrError) (v : CompoundValue) → with_head own r ≡ IsCompound xid v → (own ≡ xid) × (r ≡ Ok v)
 head_is own xid (Ok c) v is =

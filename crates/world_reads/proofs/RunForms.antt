@@ -17,10 +17,11 @@ use Rattle.mds_rule.specs.Answers.{own_answer}
 use Rattle.mds_rule.specs.MdsStates.{ServedFile, MdsSend, CallsServer, CallsBack, Replies, Answers, AwaitedCall, MdsValue, with_call, with_served, new_mds}
 use Rattle.mds_rule.specs.declared.waiter.Waiter.TheVariants.{ForFile, ForRead, ForWrite, ForRecall}
 use Rattle.mds_rule.specs.ServedFiles.{is_period_end, file_behind, file_stepped}
-use Rattle.mds_laws.specs.MdsRuns.{MdsEvent, mds_run}
+use Rattle.mds_walk.specs.MdsRuns.{MdsEvent, mds_run}
 use Rattle.mds_laws.specs.MdsRunLaws.{number_sent, AreBelow, IsNewOrAgain, IsNew, IsAgain, NumbersAscend}
-use Rattle.mds_laws.proofs.Lists.{AllOf, all_push, all_in}
-use Rattle.mds_laws.proofs.Keeping.{Cases, HeardAny}
+use Rattle.mds_walk.proofs.Lists.{AllOf, all_push, all_in}
+use Rattle.mds_laws.proofs.Keeping.{Cases}
+use Rattle.mds_walk.proofs.Parts.{HeardAny}
 use Rattle.mds_laws.proofs.Numbers.{WereSent, sent_more, sent_with, sent_kept}
 use Rattle.mds_laws.proofs.GoesWalk.{in_each_run}
 use Rattle.mds_forms.specs.Forms.{IsReplyRecord}

@@ -15,9 +15,9 @@ use Rattle.ds_calls.specs.MadeCalls.{ds_rpc_call}
 use Rattle.recall_calls.specs.RecallCalls.{recall_rpc_call}
 use Rattle.mds_rule.specs.MdsStates.{MdsSend, CallsServer, CallsBack, Replies, Answers, new_mds}
 use Rattle.mds_rule.specs.Spelled.{mds_name, spelled_send}
-use Rattle.mds_laws.specs.MdsRuns.{mds_run}
+use Rattle.mds_walk.specs.MdsRuns.{mds_run}
 use Rattle.mds_laws.specs.MdsRunLaws.{number_sent, FitsNumber, NumbersAscend, NumbersFit}
-use Rattle.mds_laws.proofs.Lists.{Split, split_in, AllOf, all_in}
+use Rattle.mds_walk.proofs.Lists.{Split, split_in, AllOf, all_in}
 use Rattle.mds_histories.specs.MdsHistory.{MdsItem, sends_in, mds_history}
 use Rattle.mds_histories.proofs.Histories.{sends_of_run}
 use Rattle.node_histories.specs.Weaves.{items_in}

@@ -15,13 +15,13 @@ use Rattle.world_rule.specs.Machines.{nth}
 use Rattle.world_rule.specs.ClusterWorlds.{ClusterState}
 use Rattle.nfs4_compound.specs.Args.{argop4}
 use Rattle.nfs4_compound.specs.Compounds.{CompoundValue}
-use Rattle.nfs4_compound.specs.Laws.{AreGivenWhole}
+use Rattle.nfs4_compound.specs.Laws.{AreServedWhole}
 use Rattle.mds_receive.specs.MdsReceive.{IncomingValue, PassedOver, IsReply, IsCompound, of_reply, incoming_of}
 use Rattle.mds_calls.specs.MdsCalls.{MdsCallValue}
 use Rattle.mds_calls.specs.MdsCompounds.{mds_call_bytes}
 use Rattle.mds_calls.specs.MdsCallLaws.{MdsMessage, HasCompoundRecord, IsCompoundUnderstood}
 use Rattle.mds_rule.specs.MdsStates.{MdsSend, MdsValue, new_mds}
-use Rattle.mds_laws.specs.MdsRuns.{MdsInput, MdsEvent, Hears, IsTimedOut, Ticks, RecallsFile, Resilvers, after_event}
+use Rattle.mds_walk.specs.MdsRuns.{MdsInput, MdsEvent, Hears, IsTimedOut, Ticks, RecallsFile, Resilvers, after_event}
 use Rattle.mds_moves.specs.MdsMoves.{MayComeFrom, AnswersSend}
 use Rattle.mds_histories.specs.MdsHistory.{MdsItem, Comes, Enters, Sends, mds_history}
 use Rattle.client_state.specs.ClientSends.{ClientSend}
@@ -148,7 +148,7 @@ module _ (w : ClusterState) (t : IsToldByNodes w) (few : length w.machines.clien
 
   -- ---- all that comes reads in form
 
-  module _ (given : AreGivenWhole argop4) (understood : (m : MdsMessage) → IsCompoundUnderstood m) (boots : List ℕ) (run : IsRunOf boots w) where
+  module _ (given : AreServedWhole) (understood : (m : MdsMessage) → IsCompoundUnderstood m) (boots : List ℕ) (run : IsRunOf boots w) where
     form_of : (from : NodeId) (bytes : List ℕ) (xid : ℕ) (v : CompoundValue) → IsAskedBy t.stories from bytes → incoming_of bytes ≡ IsCompound xid v → ReadsInForm v
     form_of from bytes xid v a is =
         let m : MdsMessage = record { xid = a.xid; owner = a.name; call = a.call } in

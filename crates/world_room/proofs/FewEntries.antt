@@ -7,7 +7,7 @@ use Rattle.cluster_model.specs.declared.entry.Entry.{Entry}
 use Rattle.cluster_model.specs.declared.entry.Entry.TheVariants as entry
 use Rattle.world_rule.specs.ClusterWorlds.{ClusterState}
 use Rattle.mds_rule.specs.MdsStates.{MdsSend, MdsValue, MdsStep, new_mds}
-use Rattle.mds_laws.specs.MdsRuns.{MdsInput, MdsEvent, Hears as FromNode, IsTimedOut, Ticks, RecallsFile, Resilvers, after_event, mds_run}
+use Rattle.mds_walk.specs.MdsRuns.{MdsInput, MdsEvent, Hears as FromNode, IsTimedOut, Ticks, RecallsFile, Resilvers, after_event, mds_run}
 use Rattle.mds_histories.specs.MdsHistory.{MdsItem, Comes, Enters, Sends, mds_history}
 use Rattle.mds_histories.specs.MdsHistory as of_mds
 use Rattle.mds_histories.proofs.Histories.{entries_of_run}

@@ -1,7 +1,7 @@
 use Rattle.mds_pace.proofs.Paces.{paces, repeats_kept}
 use Rattle.mds_pace.proofs.RunNumbers.{taken_in_runs}
 use Rattle.mds_pace.proofs.laws.repeat_law.Goals as goal
-use Rattle.mds_laws.specs.MdsRuns.{mds_run}
+use Rattle.mds_walk.specs.MdsRuns.{mds_run}
 
 pub returns-clause-paces : goal.returns-clause-paces
 returns-clause-paces c = paces

@@ -1,9 +1,9 @@
-use Rattle.std.proofs.Common.{◌≡◌, suc, ◌+◌, ◌-◌, ◌≤◌, length, List, Option, Some, None, ℕ, refl, sym, ap, subst, ◌∙◌, arith}
+use Rattle.std.proofs.Common.{◌≡◌, suc, ◌+◌, ◌-◌, ◌≤◌, length, List, Option, Some, ℕ, refl, sym, ap, subst, ◌∙◌, arith}
 use Rattle.std.specs.List.{range_with_len}
 use Rattle.mds_rule.specs.MdsStates.{MdsValue}
 use Rattle.mds_rule.specs.Goes.{each, file_calls}
 use Rattle.compound_run.specs.CompoundRuns.{HasMadeStep}
-use Rattle.mds_sends.specs.declared.kept.KeptCall.{KeptCall}
+use Rattle.mds_sends.specs.declared.kept.NumberedCall.{NumberedCall}
 use Rattle.mds_sends.specs.Kept.{numbered_kept, first_number, FirstKept}
 use Rattle.mds_sends.specs.Visits.{NextFile}
 use Rattle.mds_sends.proofs.GoesEach.{each_turn, each_none}
@@ -38,7 +38,7 @@ loop-number-preserved c =
     let least : (list : KeptList) → c.args.kept.now ≡ numbered_kept 1 list → (k : ℕ) → first_number rest ≡ Some k → n ≤ k = λ list is k at. c.in-Some.ensures.kept n k refl (c.first_number.ensures ∙ at) (kept_after list from rest some (is_left list is) k at) in (
       omega arith,
       omega (arith, within.1),
-      λ list is. subst (λ (l : List KeptCall). IsLeft list (n + 1) l) (sym c.rest_behind-rest.ensures) (left_behind list from n rest some (is_left list is) within.0 (least list is)),
+      λ list is. subst (λ (l : List NumberedCall). IsLeft list (n + 1) l) (sym c.rest_behind-rest.ensures) (left_behind list from n rest some (is_left list is) within.0 (least list is)),
       λ list is m new others.
           c.loop-number.invariant.3 list is m new
           (passed (file_calls list) c.loop-number.state from n (end - from) (end - n) (n - from) c.loop-number.out new m on left (c.in-Some.ensures.next list (first list is))

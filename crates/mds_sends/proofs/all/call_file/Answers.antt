@@ -1,4 +1,4 @@
-use Rattle.std.proofs.Common.{◌≡◌, ◌-◌, Option, [], ◌∷◌, ℕ, List, Some, sym, ap, subst, ◌∙◌}
+use Rattle.std.proofs.Common.{◌≡◌, ◌-◌, [], ◌∷◌, List, sym, ap, subst, ◌∙◌}
 use Rattle.std.specs.Prelude.{slice_get}
 use Rattle.mds_rule.specs.MdsStates.{ServedFile, MdsValue, MdsStep, numbered}
 use Rattle.mds_rule.specs.Goes.{each, recall_call, repeats, place_calls, file_calls}

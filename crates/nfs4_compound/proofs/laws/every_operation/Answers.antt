@@ -1,5 +1,6 @@
 use Rattle.std.proofs.Common.{refl}
 use Rattle.nfs4_compound.specs.Args.{argop4}
+use Rattle.nfs4_compound.specs.AllOps.{nfs_argop4}
 use Rattle.nfs4_compound.specs.CbArgs.{cb_argop4}
 use Rattle.nfs4_compound.specs.Results.{resop4}
 use Rattle.nfs4_compound.specs.CbResults.{cb_resop4}
@@ -7,7 +8,10 @@ use Rattle.nfs4_compound.specs.Compounds.{compound4_args, compound4_res, cb_comp
 use Rattle.nfs4_compound.proofs.laws.every_operation.Goals as goal
 
 pub returns-clause-args : goal.returns-clause-args
-returns-clause-args c = c.every_form.ensures argop4 refl
+returns-clause-args c = c.every_form.ensures nfs_argop4 refl
+
+pub returns-clause-served_args : goal.returns-clause-served_args
+returns-clause-served_args c = c.every_form.ensures argop4 refl
 
 pub returns-clause-results : goal.returns-clause-results
 returns-clause-results c = c.every_form.ensures resop4 refl

@@ -25,6 +25,23 @@ returns-clause-kinds c = λ file n file2 uid seqid a above b d e same.
     let none = ap (λ x. x.1.1) v in
     omega (arith, none, above)
 
+pub returns-clause-read_layouts : goal.returns-clause-read_layouts
+returns-clause-read_layouts c = λ file uid seqid file2 uid2 seqid2 a b d e same.
+    let v = one_spelling words3 (c.every_form.ensures words3 refl).again (file, (uid, 1)) (file2, (uid2, 1)) (a, (b, (lit< tt))) (d, (e, (lit< tt))) same in
+    (ap (λ x. x.0) v, ap (λ x. x.1.0) v)
+
+pub returns-clause-read_kinds : goal.returns-clause-read_kinds
+returns-clause-read_kinds c = λ file uid seqid file2 uid2 seqid2 a b d e same.
+    let v = one_spelling words3 (c.every_form.ensures words3 refl).again (file, (uid, 1)) (file2, (uid2, 0)) (a, (b, (lit< tt))) (d, (e, (lit< tt))) same in
+    let one : 1 ≡ 0 = ap (λ x. x.1.1) v in
+    omega (arith, one)
+
+pub returns-clause-read_opens : goal.returns-clause-read_opens
+returns-clause-read_opens c = λ file uid seqid file2 n a above b d e same.
+    let v = one_spelling words3 (c.every_form.ensures words3 refl).again (file, (uid, 1)) (file2, (0, n)) (a, (b, (lit< tt))) (d, ((lit< tt), e)) same in
+    let none : uid ≡ 0 = ap (λ x. x.1.0) v in
+    omega (arith, none, above)
+
 pub returns-clause-devices : goal.returns-clause-devices
 returns-clause-devices c = λ server server2 a b same.
     let long_a : server < 2 ^ 64 = omega (arith, a) in

@@ -12,7 +12,7 @@ use Rattle.bound_worlds.specs.BoundWorlds.{IsBoundRunOf, BeginsOtherwise, MayHap
 use Rattle.world_layouts.specs.WorldLayouts.{HoldersOwnAtDeliveries}
 use Rattle.world_room.specs.WorldRoom.{IsWorldSmall}
 use Rattle.mds_rule.specs.MdsStates.{MdsValue}
-use Rattle.mds_laws.specs.MdsRuns.{MdsEvent, Ticks, after_event}
+use Rattle.mds_walk.specs.MdsRuns.{MdsEvent, Ticks, after_event}
 use Rattle.script_laws.specs.ScriptLaws.{ObeysPeriods}
 use Rattle.script_laws.proofs.ClientCounts.{counts_still, new_count}
 use Rattle.script_laws.proofs.DeliveriesFirst.{own_at_first, own_behind}

@@ -1,10 +1,6 @@
-use Rattle.std.proofs.Common.{◌≡◌, None, sym, subst}
-use Rattle.nfs4_compound.specs.Args.{argop4}
-use Rattle.nfs4_compound.specs.Operations.{rest_now}
-use Rattle.nfs4_compound.proofs.Steps.{rest_before}
+use Rattle.std.proofs.Common.{sym, ◌∙◌}
+use Rattle.nfs4_compound.proofs.JoinedUnions.{rest_served}
 use Rattle.nfs4_compound.proofs.compound.Ops.rest.Goals as goal
 
-pub returns-then-self-gt0 : goal.returns-then-self-gt0
-returns-then-self-gt0 c =
-    let o = c.self.inside in
-    sym (subst (λ v. rest_now v.values v.stop ≡ None) c.self.view_is (rest_before argop4 o.left o.bytes.now o.at c.if-self-gt0.true))
+pub returns : goal.returns
+returns c = rw (← c.self.view_is) (c.rest.ensures ∙ sym (rest_served c.self.inside.all))
