@@ -6,11 +6,11 @@ use Rattle.std.specs.Map.{keys_of, values_of}
 use Rattle.std.specs.Ordering.{nat_cmp}
 use Rattle.std.specs.List.Sorted.{IsStrictlySortedBy}
 use Rattle.mds_rule.specs.MdsStates.{MdsSend, CallsServer, CallsBack, AwaitedCall}
-use Rattle.awaited_calls.specs.declared.awaited_call.SentCall.{SentCall}
-use Rattle.awaited_calls.specs.declared.awaited_call.SentCall.TheVariants.{ToServer, ToClient}
+use Rattle.awaited_calls.specs.declared.awaited_call.SentTo.{SentTo}
+use Rattle.awaited_calls.specs.declared.awaited_call.SentTo.TheVariants.{ToServer, ToClient}
 
 -- what went out, under its number
-abbrev pub sent_under : ℕ → SentCall → MdsSend
+abbrev pub sent_under : ℕ → SentTo → MdsSend
 sent_under xid (ToServer server uid call) = CallsServer server xid uid.0 call
 sent_under xid (ToClient back file stateid) = CallsBack xid back file stateid
 

@@ -16,7 +16,7 @@ use std::marker::Model;
 
 /// What went out.
 #[derive(Drop)]
-pub enum SentCall {
+pub enum SentTo {
     /// A call to the data server with this number, by this user (RFC 1813, section 3.3).
     ToServer {
         server: u32,
@@ -41,7 +41,7 @@ pub struct AwaitedCall {
     /// Who waits for the answer.
     pub caller: Waiter,
     /// What went out.
-    pub sent: SentCall,
+    pub sent: SentTo,
 }
 
 impl Model for AwaitedCall {
@@ -62,11 +62,11 @@ impl AwaitedCall {
         ensures { IfOk result (λ sent. sent ≡ spelled_send self.now.sent) }
     {
         match &self.sent {
-            SentCall::ToServer { server, uid, call } => {
+            SentTo::ToServer { server, uid, call } => {
                 let record = ds_record(alloc, self.xid, b"mds", *uid, &call.lend())?;
                 Ok((NodeId::Server(*server), record))
             }
-            SentCall::ToClient {
+            SentTo::ToClient {
                 back,
                 file,
                 stateid,

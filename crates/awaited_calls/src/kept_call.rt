@@ -12,7 +12,7 @@ use std::marker::Model;
 
 /// A call of one of the five procedures, with its own bytes (RFC 1813, section 3.3).
 #[derive(Drop)]
-enum Kept {
+enum KeptBody {
     Create {
         name: u64,
         owner: Cred,
@@ -42,7 +42,7 @@ enum Kept {
 /// `PIECE_SIZE` bytes, of which it has a copy. Clauses see the call.
 #[derive(Drop)]
 pub struct KeptCall {
-    call: Kept,
+    call: KeptBody,
 }
 
 impl Model for KeptCall {
@@ -67,7 +67,7 @@ impl KeptCall {
         requires { length (data_in (plain_ds_call call.now)) ≤ PIECE_SIZE }
         ensures { IfOk result (λ kept. kept ≡ plain_ds_call call.now) }
     {
-        let call = Kept::of(alloc, call)?;
+        let call = KeptBody::of(alloc, call)?;
         Ok(KeptCall { call })
     }
 
@@ -80,18 +80,18 @@ impl KeptCall {
     }
 }
 
-impl Kept {
+impl KeptBody {
     /// The call, with a copy of its bytes.
-    fn of(alloc: Global, call: &DsCall<'_>) -> Result<Kept, NoMemory>
+    fn of(alloc: Global, call: &DsCall<'_>) -> Result<KeptBody, NoMemory>
         ensures { IfOk result (λ kept. kept_value kept ≡ plain_ds_call call.now) }
     {
         let kept = match *call {
-            DsCall::Create { name, owner } => Kept::Create { name, owner },
+            DsCall::Create { name, owner } => KeptBody::Create { name, owner },
             DsCall::SetAttr {
                 fileid,
                 owner,
                 guard,
-            } => Kept::SetAttr {
+            } => KeptBody::SetAttr {
                 fileid,
                 owner,
                 guard,
@@ -101,14 +101,14 @@ impl Kept {
                 at,
                 synced,
                 bytes,
-            } => Kept::Write {
+            } => KeptBody::Write {
                 fileid,
                 at,
                 synced,
                 bytes: Data::of(alloc, bytes)?,
             },
-            DsCall::Commit { fileid } => Kept::Commit { fileid },
-            DsCall::Read { fileid, at, count } => Kept::Read { fileid, at, count },
+            DsCall::Commit { fileid } => KeptBody::Commit { fileid },
+            DsCall::Read { fileid, at, count } => KeptBody::Read { fileid, at, count },
         };
         Ok(kept)
     }
@@ -118,11 +118,11 @@ impl Kept {
         ensures { plain_ds_call result ≡ kept_value self.now }
     {
         match self {
-            Kept::Create { name, owner } => DsCall::Create {
+            KeptBody::Create { name, owner } => DsCall::Create {
                 name: *name,
                 owner: *owner,
             },
-            Kept::SetAttr {
+            KeptBody::SetAttr {
                 fileid,
                 owner,
                 guard,
@@ -131,7 +131,7 @@ impl Kept {
                 owner: *owner,
                 guard: *guard,
             },
-            Kept::Write {
+            KeptBody::Write {
                 fileid,
                 at,
                 synced,
@@ -142,8 +142,8 @@ impl Kept {
                 synced: *synced,
                 bytes: bytes.bytes(),
             },
-            Kept::Commit { fileid } => DsCall::Commit { fileid: *fileid },
-            Kept::Read { fileid, at, count } => DsCall::Read {
+            KeptBody::Commit { fileid } => DsCall::Commit { fileid: *fileid },
+            KeptBody::Read { fileid, at, count } => DsCall::Read {
                 fileid: *fileid,
                 at: *at,
                 count: *count,

@@ -5,6 +5,6 @@ mod awaited_call;
 mod calls;
 mod kept_call;
 
-pub use awaited_call::{AwaitedCall, SentCall};
+pub use awaited_call::{AwaitedCall, SentTo};
 pub use calls::Calls;
 pub use kept_call::KeptCall;

@@ -7,7 +7,7 @@ use Rattle.nfs4_types.specs.declared.ids.DeviceId.{DeviceId}
 use Rattle.device_addr.specs.declared.net_addr.NetAddr.{NetAddr}
 use Rattle.std.specs.List.{flat_map, position, position_from}
 use Rattle.std.specs.Option.{option_to_list}
-use Rattle.mds_file_calls.specs.declared.open.OpenFile.{OpenFile}
+use Rattle.client_file_calls.specs.declared.open.OpenFile.{OpenFile}
 use Rattle.mirror_writer.specs.Writers.{WriterValue}
 use Rattle.client_answers.specs.ClientMirrors.{told_entry, told_entries}
 use Rattle.client_answers.specs.ClientAnswers.{with_addresses}

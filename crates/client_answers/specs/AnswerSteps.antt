@@ -5,7 +5,7 @@ use Rattle.rpc_record.specs.Replies.{RpcReply}
 use Rattle.cluster_model.specs.declared.entry.Entry.{Entry}
 use Rattle.ds_calls.specs.GivenReplies.{reply_of_call}
 use Rattle.mirror_writer.specs.Outstanding.{OutCall, out_at, is_covered_everywhere}
-use Rattle.mds_file_calls.specs.declared.open.OpenFile.{OpenFile}
+use Rattle.client_file_calls.specs.declared.open.OpenFile.{OpenFile}
 use Rattle.client_state.specs.declared.request.UserRequest.{UserRequest}
 use Rattle.client_answers.specs.declared.mirrors.Heard.{Heard}
 use Rattle.cluster_model.specs.declared.outbox.Outbox.{Outbox}

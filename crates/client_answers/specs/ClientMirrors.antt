@@ -16,7 +16,7 @@ use Rattle.mirror_writer.specs.declared.step.WriterStep.{WriterStep}
 use Rattle.mirror_writer.specs.declared.step.WriterStep.TheVariants as step
 use Rattle.mirror_writer.specs.Writers.{WriterValue, WriterAfter, after_reply, after_timeout}
 use Rattle.mirror_writer.specs.Outstanding.{OutCall, out_at, is_covered_everywhere, has_no_mirror}
-use Rattle.mds_file_calls.specs.declared.open.OpenFile.{OpenFile}
+use Rattle.client_file_calls.specs.declared.open.OpenFile.{OpenFile}
 use Rattle.client_state.specs.declared.layout.Layout.{Layout}
 use Rattle.client_state.specs.ClientStates.{ClientValue, ClientRun, unmoved}
 use Rattle.client_state.specs.ClientQueue.{with_layout, with_writer, ending, revoked_layout, lost_mirrors}

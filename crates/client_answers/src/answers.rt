@@ -1,7 +1,7 @@
 //! The answers of the metadata server.
 
 ghost use Rattle.std.specs.Prelude.{◌≡◌, Some, OnOk};
-ghost use Rattle.mds_calls.specs.MdsReplies.{plain_mds_answer};
+ghost use Rattle.client_mds_calls.specs.MdsReplies.{plain_mds_answer};
 ghost use Rattle.client_state.specs.ClientStates.{as_new};
 ghost use Rattle.client_state.specs.ClientQueue.{answers_user};
 ghost use Rattle.client_state.specs.ClientStates.{is_layout_return};
@@ -12,10 +12,10 @@ ghost use Rattle.client_answers.specs.AnswerSteps.{with_tie};
 use crate::learn::learn;
 use crate::lost::lose_layout;
 use crate::told::end_return;
+use client_mds_calls::{LayoutGrant, MdsAnswer, MdsAsk, OpenFile};
 use client_state::{Layout, LayoutStage, OwnSession, State, Tie, Untold, is_layout_return};
 use cluster_model::{Outbox, UserAnswer};
 use ff_xdr::{Data, NoMemory};
-use mds_calls::{LayoutGrant, MdsAnswer, MdsAsk, OpenFile};
 use mirror_writer::Writer;
 use nfs4_session::{CbSlot, next_sequence};
 use nfs4_types::SessionId;

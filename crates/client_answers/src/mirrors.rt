@@ -11,11 +11,11 @@ ghost use Rattle.client_answers.specs.AnswerSteps.{Hears};
 
 use crate::lost::{lose_layout, lose_mirror};
 use crate::told::tell_covered;
+use client_mds_calls::OpenFile;
 use client_state::{Layout, State};
 use cluster_model::{DsCall, Outbox};
 use ds_calls::ds_reply_of;
 use ff_xdr::NoMemory;
-use mds_calls::OpenFile;
 use mirror_writer::WriterStep;
 use rpc_record::Reply;
 

@@ -2,16 +2,16 @@
 
 ghost use Rattle.std.specs.Prelude.{◌≡◌, OnOk};
 ghost use Rattle.rpc_record.specs.Replies.{rpc_reply};
-ghost use Rattle.mds_calls.specs.MdsReplies.{plain_mds_answer, reply_of_ask};
+ghost use Rattle.client_mds_calls.specs.MdsReplies.{plain_mds_answer, reply_of_ask};
 ghost use Rattle.client_state.specs.QueueSteps.{HasRun};
 ghost use Rattle.client_answers.specs.ClientAnswers.{delayed, mds_answered};
 ghost use Rattle.client_answers.specs.AnswerSteps.{with_asked_as};
 
 use crate::answers::{next_on_slot, take_answer};
+use client_mds_calls::{MdsAnswer, MdsAsk, MdsReply, SlotReport, mds_reply_of};
 use client_state::State;
 use cluster_model::Outbox;
 use ff_xdr::NoMemory;
-use mds_calls::{MdsAnswer, MdsAsk, MdsReply, SlotReport, mds_reply_of};
 use rpc_record::Reply;
 
 /// The same record goes out again at the next tick.

@@ -7,10 +7,10 @@ ghost use Rattle.client_answers.specs.ClientAnswers.{layout_returned};
 ghost use Rattle.client_state.specs.QueueSteps.{HasRun};
 ghost use Rattle.client_answers.specs.AnswerSteps.{Splits, PutsEntries, TellsCovered};
 
+use client_mds_calls::OpenFile;
 use client_state::{Layout, State, Untold};
 use cluster_model::{Entry, Outbox};
 use ff_xdr::NoMemory;
-use mds_calls::OpenFile;
 use mirror_writer::Writer;
 use std::alloc::Global;
 

@@ -6,9 +6,9 @@ use Rattle.ff_xdr.specs.Form.{word, spelling}
 use Rattle.rpc_record.specs.Calls.{RpcCall, call_bytes, call_body, body_value}
 use Rattle.mirror_writer.specs.Writers.{WriterSends, next_sent}
 use Rattle.ds_calls.specs.MadeCalls.{ds_rpc_call}
-use Rattle.mds_calls.specs.declared.ask.MdsAsk.{MdsAsk}
-use Rattle.mds_calls.specs.MdsCalls.{MdsCallValue}
-use Rattle.mds_calls.specs.MdsCompounds.{mds_rpc_call}
+use Rattle.client_mds_calls.specs.declared.ask.MdsAsk.{MdsAsk}
+use Rattle.client_mds_calls.specs.MdsCalls.{MdsCallValue}
+use Rattle.client_mds_calls.specs.MdsCompounds.{mds_rpc_call}
 use Rattle.client_state.specs.declared.layout.Layout.{Layout}
 use Rattle.client_state.specs.declared.asked.Asked.{Asked}
 use Rattle.client_state.specs.ClientStates.{ClientValue}

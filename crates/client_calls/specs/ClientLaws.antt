@@ -5,7 +5,7 @@ use Rattle.ff_xdr.specs.Form.{word}
 use Rattle.cluster_model.specs.declared.ids.NodeId.{NodeId}
 use Rattle.cluster_model.specs.declared.ids.NodeId.TheVariants.{Mds, Server, Client}
 use Rattle.mirror_writer.specs.Writers.{WriterValue, WriterMirror}
-use Rattle.mds_calls.specs.declared.ask.MdsAsk.{MdsAsk}
+use Rattle.client_mds_calls.specs.declared.ask.MdsAsk.{MdsAsk}
 use Rattle.client_state.specs.declared.layout.Layout.{Layout}
 use Rattle.client_state.specs.ClientStates.{ClientValue}
 use Rattle.client_state.specs.ClientSends.{ClientSend, CallsServer, CallsMds, spelled_send, ClientStep}

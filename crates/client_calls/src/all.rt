@@ -6,10 +6,10 @@ ghost use Rattle.client_state.specs.QueueSteps.{HasStepped};
 
 use crate::calls::call_mirrors;
 use crate::compounds::call_mds;
+use client_mds_calls::MdsAsk;
 use client_state::State;
 use cluster_model::Outbox;
 use ff_xdr::NoMemory;
-use mds_calls::MdsAsk;
 
 /// The calls go out: first those to the mirrors, then the compound that is due, where the head of the queue wants
 /// this.

@@ -3,8 +3,8 @@
 ghost use Rattle.std.specs.Prelude.{◌≡◌};
 ghost use Rattle.client_calls.specs.ClientCalls.{is_ending, is_settled, return_ask, due_ask, may_ask};
 
+use client_mds_calls::MdsAsk;
 use client_state::{LayoutStage, State};
-use mds_calls::MdsAsk;
 use mirror_writer::Writer;
 
 /// LAYOUTRETURN waits for the commits of the mirrors that have not failed.

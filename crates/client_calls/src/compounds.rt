@@ -1,9 +1,9 @@
 //! Compounds to the metadata server.
 
 ghost use Rattle.std.specs.Prelude.{◌≡◌, ◌≤◌, Some, length, IfOk, OnOk};
-ghost use Rattle.mds_calls.specs.MdsCalls.{OnSlot, DeviceInfo, LayoutReturn, plain_mds_call, plain_slot_call};
-ghost use Rattle.mds_calls.specs.MdsCalls as slot;
-ghost use Rattle.mds_calls.specs.MdsCompounds.{FitsCompound};
+ghost use Rattle.client_mds_calls.specs.MdsCalls.{OnSlot, DeviceInfo, LayoutReturn, plain_mds_call, plain_slot_call};
+ghost use Rattle.client_mds_calls.specs.MdsCalls as slot;
+ghost use Rattle.client_mds_calls.specs.MdsCompounds.{FitsCompound};
 ghost use Rattle.client_state.specs.declared.tie.Tie.TheVariants.{HasSession};
 ghost use Rattle.client_state.specs.ClientQueue.{unknown_servers};
 ghost use Rattle.client_calls.specs.ClientCalls.{failed_mirrors, open_call, through_call, devices_call, return_call, file_call, slot_call, on_slot, returning, asked_by, asks, calls_mds};
@@ -12,13 +12,13 @@ ghost use Rattle.client_state.specs.QueueSteps.{HasStepped, with_layout_at};
 
 use crate::asks::{due_ask, may_ask};
 use crate::calls::xid_after;
+use client_mds_calls::{FailedMirror, MdsAsk, MdsCall, OpenFile, SlotCall, put_mds_call};
 use client_state::{
     Asked, FileName, Layout, LayoutStage, OwnSession, State, Tie, UserRequest, is_layout_return,
     unknown_in,
 };
 use cluster_model::{NodeId, Outbox};
 use ff_xdr::{Data, NoMemory, Out};
-use mds_calls::{FailedMirror, MdsAsk, MdsCall, OpenFile, SlotCall, put_mds_call};
 use mirror_writer::WriteBytes;
 use std::alloc::Global;
 

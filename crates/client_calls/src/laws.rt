@@ -1,7 +1,7 @@
 //! What holds of the rule of a client.
 
 ghost use Rattle.std.specs.Prelude.{Option};
-ghost use Rattle.mds_calls.specs.declared.ask.MdsAsk.{MdsAsk};
+ghost use Rattle.client_mds_calls.specs.declared.ask.MdsAsk.{MdsAsk};
 ghost use Rattle.client_state.specs.ClientStates.{ClientValue};
 ghost use Rattle.client_state.specs.ClientSends.{ClientSend};
 ghost use Rattle.client_calls.specs.ClientLaws.{NumbersCalls, SpellsNumber, CallsItsMirrors};

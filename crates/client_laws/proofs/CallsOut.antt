@@ -9,8 +9,8 @@ use Rattle.cluster_model.specs.DsCalls.{DsCallValue}
 use Rattle.mirror_writer.specs.declared.call.TakenWrite.{TakenWrite}
 use Rattle.mirror_writer.specs.Writers.{WriterMirror, WriterValue, WriterSends, next_sent, rest_committed, open_committed, is_committed, is_covered, covered_flag}
 use Rattle.mirror_writer.specs.Outstanding.{has_no_mirror}
-use Rattle.mds_calls.specs.FittingCalls.{reports_server}
-use Rattle.mds_calls.specs.MdsCalls.{MdsCallValue}
+use Rattle.client_mds_calls.specs.FittingCalls.{reports_server}
+use Rattle.client_mds_calls.specs.MdsCalls.{MdsCallValue}
 use Rattle.client_state.specs.declared.layout.Layout.{Layout}
 use Rattle.client_state.specs.ClientStates.{ClientValue}
 use Rattle.client_state.specs.ClientQueue.{with_writer}

@@ -2,7 +2,7 @@
 use Rattle.std.proofs.lemmas.Option.{none-some}
 use Rattle.client_state.specs.ClientSends.{CallsMds}
 use Rattle.client_state.specs.declared.asked.Asked.{Asked}
-use Rattle.mds_calls.specs.declared.ask.MdsAsk.TheVariants as ask
+use Rattle.client_mds_calls.specs.declared.ask.MdsAsk.TheVariants as ask
 use Rattle.std.proofs.Common.{◌≡◌, ℕ, Bool, true, false, List, [], ◌∷◌, ◌++◌, Option, Some, None, refl, sym, subst, ◌∙◌}
 use Rattle.std.specs.Prelude.{Ok, ◌==◌, ◌||◌, if◌then◌else◌}
 use Rattle.rpc_record.specs.Replies.{RpcReply, reply_at}
@@ -18,12 +18,12 @@ use Rattle.mirror_writer.specs.declared.step.WriterStep.{WriterStep}
 use Rattle.mirror_writer.specs.declared.step.WriterStep.TheVariants as step
 use Rattle.mirror_writer.specs.Writers.{WriterAfter, after_reply}
 use Rattle.mirror_writer.specs.Outstanding.{OutCall, out_at, has_no_mirror}
-use Rattle.mds_file_calls.specs.declared.open.OpenFile.{OpenFile}
+use Rattle.client_file_calls.specs.declared.open.OpenFile.{OpenFile}
 use Rattle.client_state.specs.declared.layout.Layout.{Layout}
 use Rattle.client_state.specs.ClientStates.{ClientValue, unmoved}
 use Rattle.client_state.specs.ClientQueue.{with_layout, with_writer, ending, fails_layout, revoked_layout, lost_mirrors, without_commit}
 use Rattle.client_answers.specs.ClientMirrors.{is_commit, with_failed, mirror_failed, after_step, has_writer, answered_out, ds_answered_by, ds_answered, tells_covered}
-use Rattle.mds_calls.specs.FittingCalls.{reports_server}
+use Rattle.client_mds_calls.specs.FittingCalls.{reports_server}
 use Rattle.client_laws.specs.ClientHistory.{HistoryItem, Hears, Recorded, Enters, Sends}
 use Rattle.client_laws.proofs.Later.{stands_later, lost_later}
 use Rattle.client_laws.proofs.Places.{same_number}

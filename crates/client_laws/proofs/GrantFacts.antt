@@ -15,15 +15,15 @@ use Rattle.ff_layout.specs.Mirror.{ff_mirror4}
 use Rattle.ff_layout.specs.Layout.{ff_layout4}
 use Rattle.cluster_model.specs.declared.ids.Mirror.{Mirror}
 use Rattle.cluster_model.specs.Mirrors.{are_mirrors, are_on_different_servers}
-use Rattle.mds_parts.specs.MdsResults.{one_in, in_arm, done_as, sequence_ok}
-use Rattle.mds_session_calls.specs.SessionResults.{exchange_id_results, create_session_results, reclaim_complete_results, renew_results}
-use Rattle.mds_file_calls.specs.declared.grant.LayoutGrant.{LayoutGrant}
-use Rattle.mds_file_calls.specs.declared.grant.GrantedMirror.{GrantedMirror}
-use Rattle.mds_file_calls.specs.LayoutGrants.{granted_mirror_of, under_one, joined_mirror, mirrors_under, granted_to, grant_by, layout_grant_of}
-use Rattle.mds_file_calls.specs.FileResults.{put_fh_ok, stateid_of, one_layout, layout_get_ok, layout_get_results, open_results, device_info_results, write_results, read_results, layout_return_results}
-use Rattle.mds_calls.specs.declared.ask.MdsAsk.{MdsAsk}
-use Rattle.mds_calls.specs.declared.ask.MdsAsk.TheVariants as ask
-use Rattle.mds_calls.specs.MdsReplies.{MdsAnswerValue, Client, Granted, Returned, Refused, answer_if, answer_where, results_of_ask, compound_answer, compound_reply, reply_of_ask, odd_mds_reply}
+use Rattle.client_compounds.specs.MdsResults.{one_in, in_arm, done_as, sequence_ok}
+use Rattle.client_session_calls.specs.SessionResults.{exchange_id_results, create_session_results, reclaim_complete_results, renew_results}
+use Rattle.client_file_calls.specs.declared.grant.LayoutGrant.{LayoutGrant}
+use Rattle.client_file_calls.specs.declared.grant.GrantedMirror.{GrantedMirror}
+use Rattle.client_file_calls.specs.LayoutGrants.{granted_mirror_of, under_one, joined_mirror, mirrors_under, granted_to, grant_by, layout_grant_of}
+use Rattle.client_file_calls.specs.FileResults.{put_fh_ok, stateid_of, one_layout, layout_get_ok, layout_get_results, open_results, device_info_results, write_results, read_results, layout_return_results}
+use Rattle.client_mds_calls.specs.declared.ask.MdsAsk.{MdsAsk}
+use Rattle.client_mds_calls.specs.declared.ask.MdsAsk.TheVariants as ask
+use Rattle.client_mds_calls.specs.MdsReplies.{MdsAnswerValue, Client, Granted, Returned, Refused, answer_if, answer_where, results_of_ask, compound_answer, compound_reply, reply_of_ask, odd_mds_reply}
 use Rattle.client_laws.proofs.Stands.{IfThere}
 
 -- ---- a result of one operation

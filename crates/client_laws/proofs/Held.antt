@@ -2,8 +2,8 @@
 use Rattle.std.proofs.Common.{◌≡◌, ℕ, Bool, true, false, List, [], ◌∷◌, length, Option, Some, None, refl, sym, ap, ◌∙◌}
 use Rattle.std.specs.Prelude.{◌==◌, if◌then◌else◌}
 use Rattle.mirror_writer.specs.Writers.{overlaps_taken}
-use Rattle.mds_file_calls.specs.declared.open.OpenFile.{OpenFile}
-use Rattle.mds_calls.specs.declared.ask.MdsAsk.TheVariants as ask
+use Rattle.client_file_calls.specs.declared.open.OpenFile.{OpenFile}
+use Rattle.client_mds_calls.specs.declared.ask.MdsAsk.TheVariants as ask
 use Rattle.cluster_model.specs.declared.answer.UserAnswer.TheVariants as answer
 use Rattle.client_state.specs.declared.stage.LayoutStage.{LayoutStage}
 use Rattle.client_state.specs.declared.stage.LayoutStage.TheVariants.{Writing, Ending, Deferred, Returning}

@@ -13,16 +13,16 @@ use Rattle.cluster_model.specs.declared.entry.Entry.TheVariants.{Sent, Answer}
 use Rattle.cluster_model.specs.declared.answer.UserAnswer.TheVariants as answer
 use Rattle.cluster_model.specs.declared.answer.FailCause.TheVariants as failing
 use Rattle.nfs4_types.specs.declared.ids.SessionId.{SessionId}
-use Rattle.mds_calls.specs.FittingCalls.{reports_server}
-use Rattle.mds_calls.specs.MdsCalls.{OnSlot}
-use Rattle.mds_calls.specs.MdsCalls as slot
+use Rattle.client_mds_calls.specs.FittingCalls.{reports_server}
+use Rattle.client_mds_calls.specs.MdsCalls.{OnSlot}
+use Rattle.client_mds_calls.specs.MdsCalls as slot
 use Rattle.client_state.specs.ClientSends.{CallsMds}
 use Rattle.cluster_model.specs.Journal.{is_mirror}
 use Rattle.mirror_writer.specs.declared.call.TakenWrite.{TakenWrite}
 use Rattle.mirror_writer.specs.declared.step.WriterStep.TheVariants as step
 use Rattle.mirror_writer.specs.Writers.{WriterMirror, WriterValue, commit_wanted, new_mirror, with_write, queued}
-use Rattle.mds_file_calls.specs.declared.grant.LayoutGrant.{LayoutGrant}
-use Rattle.mds_file_calls.specs.declared.layout_return.FailedMirror.{FailedMirror}
+use Rattle.client_file_calls.specs.declared.grant.LayoutGrant.{LayoutGrant}
+use Rattle.client_file_calls.specs.declared.layout_return.FailedMirror.{FailedMirror}
 use Rattle.client_state.specs.declared.stage.LayoutStage.{LayoutStage}
 use Rattle.client_state.specs.declared.stage.LayoutStage.TheVariants.{Writing, Ending, Deferred, Returning}
 use Rattle.client_state.specs.declared.layout.Layout.{Layout}

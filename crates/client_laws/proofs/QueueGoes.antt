@@ -1,7 +1,7 @@
 -- The queue is run, and then the calls go out.
 use Rattle.std.proofs.lemmas.Option.{none-some}
 use Rattle.cluster_model.specs.declared.ids.FileId.{FileId}
-use Rattle.mds_calls.specs.FittingCalls.{reports_server}
+use Rattle.client_mds_calls.specs.FittingCalls.{reports_server}
 use Rattle.client_laws.proofs.Orders.{in_more, in_end, in_either}
 use Rattle.client_laws.proofs.Silent.{silent_now, unsent_writing, free_now, unrecalled_now}
 use Rattle.std.proofs.Common.{◌≡◌, ℕ, Bool, true, false, List, [], ◌∷◌, ◌++◌, length, Option, Some, None, refl, sym, subst, ◌∙◌, inl, inr, ◌⊎◌, ap}
@@ -10,9 +10,9 @@ use Rattle.cluster_model.specs.declared.answer.UserAnswer.{UserAnswer}
 use Rattle.cluster_model.specs.declared.answer.UserAnswer.TheVariants as answer
 use Rattle.cluster_model.specs.declared.entry.Entry.TheVariants.{Sent, Answer}
 use Rattle.mirror_writer.specs.Writers.{with_write, commit_wanted, overlaps_taken}
-use Rattle.mds_file_calls.specs.declared.layout_return.FailedMirror.{FailedMirror}
-use Rattle.mds_file_calls.specs.declared.open.OpenFile.{OpenFile}
-use Rattle.mds_calls.specs.declared.ask.MdsAsk.TheVariants as ask
+use Rattle.client_file_calls.specs.declared.layout_return.FailedMirror.{FailedMirror}
+use Rattle.client_file_calls.specs.declared.open.OpenFile.{OpenFile}
+use Rattle.client_mds_calls.specs.declared.ask.MdsAsk.TheVariants as ask
 use Rattle.client_state.specs.declared.stage.LayoutStage.{LayoutStage}
 use Rattle.client_state.specs.declared.stage.LayoutStage.TheVariants.{Writing, Ending, Deferred, Returning}
 use Rattle.client_state.specs.declared.request.UserRequest.{UserRequest}

@@ -11,8 +11,8 @@ use Rattle.cluster_model.specs.declared.answer.UserAnswer.TheVariants as answer
 use Rattle.cluster_model.specs.declared.answer.FailCause.TheVariants as failing
 use Rattle.cluster_model.specs.declared.entry.Entry.{Entry}
 use Rattle.cluster_model.specs.declared.entry.Entry.TheVariants.{Answer}
-use Rattle.mds_calls.specs.MdsCalls.{OnSlot}
-use Rattle.mds_calls.specs.MdsCalls as slot
+use Rattle.client_mds_calls.specs.MdsCalls.{OnSlot}
+use Rattle.client_mds_calls.specs.MdsCalls as slot
 use Rattle.client_state.specs.declared.layout.Layout.{Layout}
 use Rattle.client_state.specs.ClientStates.{ClientValue, fresh_client}
 use Rattle.client_state.specs.ClientSends.{ClientSend, CallsMds, RepliesToMds, ClientStep, sends_none}

@@ -1,6 +1,6 @@
 -- What goes out under a layout, and what is taken under it.
-use Rattle.mds_calls.specs.MdsCalls.{OnSlot}
-use Rattle.mds_calls.specs.MdsCalls as slot
+use Rattle.client_mds_calls.specs.MdsCalls.{OnSlot}
+use Rattle.client_mds_calls.specs.MdsCalls as slot
 use Rattle.client_state.specs.ClientSends.{CallsMds}
 use Rattle.client_laws.specs.RecallLaws.{RecalledSince, WasRecalled, up_to}
 use Rattle.std.proofs.lemmas.List.{append_assoc, append_cancel_right}
@@ -14,7 +14,7 @@ use Rattle.cluster_model.specs.DsCalls.{DsCallValue, Create, SetAttr, Write, Com
 use Rattle.mirror_writer.specs.declared.call.TakenWrite.{TakenWrite}
 use Rattle.mirror_writer.specs.Writers.{WriterSends, next_sent, touches, overlaps_taken}
 use Rattle.mirror_writer.specs.Outstanding.{OutCall, out_at}
-use Rattle.mds_file_calls.specs.declared.grant.LayoutGrant.{LayoutGrant}
+use Rattle.client_file_calls.specs.declared.grant.LayoutGrant.{LayoutGrant}
 use Rattle.client_state.specs.declared.stage.LayoutStage.TheVariants.{Writing}
 use Rattle.client_state.specs.declared.layout.Layout.{Layout}
 use Rattle.client_state.specs.ClientQueue.{is_writing}

@@ -10,11 +10,11 @@ use Rattle.cluster_model.specs.declared.entry.Entry.TheVariants.{Told}
 use Rattle.mirror_writer.specs.declared.call.TakenWrite.{TakenWrite}
 use Rattle.mirror_writer.specs.Writers.{WriterMirror, WriterValue, covered_flag}
 use Rattle.mirror_writer.specs.Outstanding.{is_covered_everywhere}
-use Rattle.mds_file_calls.specs.declared.open.OpenFile.{OpenFile}
-use Rattle.mds_file_calls.specs.declared.grant.LayoutGrant.{LayoutGrant}
-use Rattle.mds_calls.specs.FittingCalls.{reports_server}
-use Rattle.mds_calls.specs.MdsCalls.{OnSlot}
-use Rattle.mds_calls.specs.MdsCalls as slot
+use Rattle.client_file_calls.specs.declared.open.OpenFile.{OpenFile}
+use Rattle.client_file_calls.specs.declared.grant.LayoutGrant.{LayoutGrant}
+use Rattle.client_mds_calls.specs.FittingCalls.{reports_server}
+use Rattle.client_mds_calls.specs.MdsCalls.{OnSlot}
+use Rattle.client_mds_calls.specs.MdsCalls as slot
 use Rattle.client_state.specs.declared.layout.Layout.{Layout}
 use Rattle.client_state.specs.ClientStates.{ClientValue}
 use Rattle.client_state.specs.ClientQueue.{with_layout}

@@ -14,16 +14,16 @@ use Rattle.cluster_model.specs.declared.entry.Entry.{Entry}
 use Rattle.cluster_model.specs.declared.entry.Entry.TheVariants.{Sent, Told, Rogue, Answer}
 use Rattle.cluster_model.specs.DsCalls.{DsCallValue, Write, Commit, DsReplyValue, Written, Committed}
 use Rattle.ds_calls.specs.GivenReplies.{reply_of_call}
-use Rattle.mds_file_calls.specs.declared.open.OpenFile.{OpenFile}
+use Rattle.client_file_calls.specs.declared.open.OpenFile.{OpenFile}
 use Rattle.mirror_writer.specs.Writers.{touches}
-use Rattle.mds_file_calls.specs.declared.grant.LayoutGrant.{LayoutGrant}
-use Rattle.mds_file_calls.specs.declared.layout_return.FailedMirror.{FailedMirror}
-use Rattle.mds_calls.specs.declared.ask.MdsAsk.{MdsAsk}
-use Rattle.mds_calls.specs.declared.ask.MdsAsk.TheVariants as ask
-use Rattle.mds_calls.specs.FittingCalls.{reports_server}
-use Rattle.mds_calls.specs.MdsCalls.{MdsCallValue, OnSlot, SlotCallValue}
-use Rattle.mds_calls.specs.MdsCalls as slot
-use Rattle.mds_calls.specs.MdsReplies.{MdsAnswerValue, Granted, Returned, reply_of_ask}
+use Rattle.client_file_calls.specs.declared.grant.LayoutGrant.{LayoutGrant}
+use Rattle.client_file_calls.specs.declared.layout_return.FailedMirror.{FailedMirror}
+use Rattle.client_mds_calls.specs.declared.ask.MdsAsk.{MdsAsk}
+use Rattle.client_mds_calls.specs.declared.ask.MdsAsk.TheVariants as ask
+use Rattle.client_mds_calls.specs.FittingCalls.{reports_server}
+use Rattle.client_mds_calls.specs.MdsCalls.{MdsCallValue, OnSlot, SlotCallValue}
+use Rattle.client_mds_calls.specs.MdsCalls as slot
+use Rattle.client_mds_calls.specs.MdsReplies.{MdsAnswerValue, Granted, Returned, reply_of_ask}
 use Rattle.client_state.specs.ClientStates.{fresh_client}
 use Rattle.client_state.specs.ClientSends.{CallsServer, CallsMds, RepeatsToServer}
 use Rattle.client_laws.specs.ClientHistory.{ClientInput, Recorded, HistoryItem, Hears, Enters, Sends, InOrder, HasItem, Each, client_history}

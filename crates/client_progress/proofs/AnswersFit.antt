@@ -13,15 +13,15 @@ use Rattle.nfs4_compound.specs.Compounds.{compound4_res}
 use Rattle.device_addr.specs.declared.net_addr.NetAddr.{NetAddr}
 use Rattle.cluster_model.specs.declared.ids.Mirror.{Mirror}
 use Rattle.mirror_writer.specs.Writers.{WriterMirror, new_mirror}
-use Rattle.mds_session_calls.specs.SessionResults.{exchange_id_results, create_session_results, reclaim_complete_results, renew_results}
-use Rattle.mds_file_calls.specs.declared.open.OpenFile.{OpenFile}
-use Rattle.mds_file_calls.specs.declared.grant.LayoutGrant.{LayoutGrant}
-use Rattle.mds_file_calls.specs.FileResults.{open_results, layout_get_results, device_info_results, write_results, read_results, layout_return_results}
-use Rattle.mds_calls.specs.declared.ask.MdsAsk.{MdsAsk}
-use Rattle.mds_calls.specs.declared.ask.MdsAsk.TheVariants as ask
-use Rattle.mds_calls.specs.declared.reply.SlotReport.{SlotReport}
-use Rattle.mds_calls.specs.declared.reply.SlotReport.TheVariants.{Taken, Uncached, Delayed, Unknown}
-use Rattle.mds_calls.specs.MdsReplies.{MdsAnswerValue, Client, Session, Complete, Opened, Granted, Devices, Written, Bytes, Returned, Renewed, Refused, MdsReplyValue, answer_if, answer_where, results_of_ask, compound_answer, compound_reply, reply_of_ask, odd_mds_reply}
+use Rattle.client_session_calls.specs.SessionResults.{exchange_id_results, create_session_results, reclaim_complete_results, renew_results}
+use Rattle.client_file_calls.specs.declared.open.OpenFile.{OpenFile}
+use Rattle.client_file_calls.specs.declared.grant.LayoutGrant.{LayoutGrant}
+use Rattle.client_file_calls.specs.FileResults.{open_results, layout_get_results, device_info_results, write_results, read_results, layout_return_results}
+use Rattle.client_mds_calls.specs.declared.ask.MdsAsk.{MdsAsk}
+use Rattle.client_mds_calls.specs.declared.ask.MdsAsk.TheVariants as ask
+use Rattle.client_mds_calls.specs.declared.reply.SlotReport.{SlotReport}
+use Rattle.client_mds_calls.specs.declared.reply.SlotReport.TheVariants.{Taken, Uncached, Delayed, Unknown}
+use Rattle.client_mds_calls.specs.MdsReplies.{MdsAnswerValue, Client, Session, Complete, Opened, Granted, Devices, Written, Bytes, Returned, Renewed, Refused, MdsReplyValue, answer_if, answer_where, results_of_ask, compound_answer, compound_reply, reply_of_ask, odd_mds_reply}
 use Rattle.client_state.specs.declared.stage.LayoutStage.{LayoutStage}
 use Rattle.client_state.specs.declared.stage.LayoutStage.TheVariants.{Writing, Ending, Deferred, Returning}
 use Rattle.client_state.specs.declared.request.UserRequest.{UserRequest}

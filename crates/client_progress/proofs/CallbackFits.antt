@@ -19,7 +19,7 @@ use Rattle.nfs4_compound.specs.declared.stop.Stop.{Stop}
 use Rattle.nfs4_compound.specs.CbArgs.{cb_argop4}
 use Rattle.nfs4_compound.specs.Compounds.{CbCompoundValue, cb_compound_at}
 use Rattle.nfs4_compound.specs.Operations.{rest_of_stop}
-use Rattle.mds_calls.specs.declared.ask.MdsAsk.{MdsAsk}
+use Rattle.client_mds_calls.specs.declared.ask.MdsAsk.{MdsAsk}
 use Rattle.client_state.specs.declared.tie.OwnSession.{OwnSession}
 use Rattle.client_state.specs.declared.tie.Tie.{Tie}
 use Rattle.client_state.specs.declared.tie.Tie.TheVariants.{NoClient, HasClient, HasSession}

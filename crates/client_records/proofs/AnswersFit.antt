@@ -28,17 +28,17 @@ use Rattle.ff_layout.specs.Mirror.{ff_mirror4}
 use Rattle.ff_layout.specs.Layout.{ff_layout4}
 use Rattle.cluster_model.specs.declared.ids.Mirror.{Mirror}
 use Rattle.cluster_model.specs.Mirrors.{are_mirrors, are_on_different_servers}
-use Rattle.mds_parts.specs.MdsResults.{done_as, sequence_ok}
-use Rattle.mds_session_calls.specs.declared.exchange_id.ClientGiven.{ClientGiven}
-use Rattle.mds_session_calls.specs.SessionResults.{exchange_id_ok, exchange_id_results, create_session_ok, create_session_results, reclaim_complete_results, renew_results}
-use Rattle.mds_file_calls.specs.declared.open.OpenFile.{OpenFile}
-use Rattle.mds_file_calls.specs.declared.grant.LayoutGrant.{LayoutGrant}
-use Rattle.mds_file_calls.specs.declared.grant.GrantedMirror.{GrantedMirror}
-use Rattle.mds_file_calls.specs.LayoutGrants.{user_number_in, server_in, granted_mirror_at, one_handle, data_server_of, granted_mirror_of, under_one, joined_mirror, mirrors_under, granted_to, grant_by, layout_grant_of}
-use Rattle.mds_file_calls.specs.FileResults.{put_fh_ok, put_root_fh_ok, stateid_of, open_ok, get_fh_ok, opened_file, open_results, one_layout, layout_get_ok, layout_get_results, device_info_results, write_results, read_results, layout_return_results}
-use Rattle.mds_calls.specs.declared.ask.MdsAsk.{MdsAsk}
-use Rattle.mds_calls.specs.declared.ask.MdsAsk.TheVariants as ask
-use Rattle.mds_calls.specs.MdsReplies.{MdsAnswerValue, Client, Session, Opened, Granted, Refused, answer_if, answer_where, results_of_ask, compound_reply, odd_mds_reply, reply_of_ask}
+use Rattle.client_compounds.specs.MdsResults.{done_as, sequence_ok}
+use Rattle.client_session_calls.specs.declared.exchange_id.ClientGiven.{ClientGiven}
+use Rattle.client_session_calls.specs.SessionResults.{exchange_id_ok, exchange_id_results, create_session_ok, create_session_results, reclaim_complete_results, renew_results}
+use Rattle.client_file_calls.specs.declared.open.OpenFile.{OpenFile}
+use Rattle.client_file_calls.specs.declared.grant.LayoutGrant.{LayoutGrant}
+use Rattle.client_file_calls.specs.declared.grant.GrantedMirror.{GrantedMirror}
+use Rattle.client_file_calls.specs.LayoutGrants.{user_number_in, server_in, granted_mirror_at, one_handle, data_server_of, granted_mirror_of, under_one, joined_mirror, mirrors_under, granted_to, grant_by, layout_grant_of}
+use Rattle.client_file_calls.specs.FileResults.{put_fh_ok, put_root_fh_ok, stateid_of, open_ok, get_fh_ok, opened_file, open_results, one_layout, layout_get_ok, layout_get_results, device_info_results, write_results, read_results, layout_return_results}
+use Rattle.client_mds_calls.specs.declared.ask.MdsAsk.{MdsAsk}
+use Rattle.client_mds_calls.specs.declared.ask.MdsAsk.TheVariants as ask
+use Rattle.client_mds_calls.specs.MdsReplies.{MdsAnswerValue, Client, Session, Opened, Granted, Refused, answer_if, answer_where, results_of_ask, compound_reply, odd_mds_reply, reply_of_ask}
 use Rattle.client_laws.proofs.Stands.{IfThere}
 use Rattle.client_records.specs.ClientRecords.{AreBytes}
 use Rattle.client_records.proofs.HeldBytes.{Holds, HoldsBody, holds_pair, holds_body, holds_array, opaque_bytes, whole_holds, arm_holds, number_of_bytes}

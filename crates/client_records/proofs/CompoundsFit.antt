@@ -11,11 +11,11 @@ use Rattle.nfs4_types.specs.Channels.{channel_attrs4}
 use Rattle.nfs4_compound.specs.Args.{argop4}
 use Rattle.nfs4_compound.specs.Compounds.{compound4_args}
 use Rattle.cluster_model.specs.declared.ids.FileId.{FileId}
-use Rattle.mds_file_calls.specs.FileOps.{put_fh_op, device_info_op}
-use Rattle.mds_file_calls.proofs.Reports.{report_size}
-use Rattle.mds_session_calls.specs.SessionOps.{fore_channel, back_channel}
-use Rattle.mds_calls.specs.MdsCalls.{MdsCallValue, ExchangeId, CreateSession, OnSlot, SlotCallValue, ReclaimComplete, Open, LayoutGet, DeviceInfo, Write, Read, LayoutReturn, Renew}
-use Rattle.mds_calls.specs.MdsCompounds.{slot_ops, mds_ops}
+use Rattle.client_file_calls.specs.FileOps.{put_fh_op, device_info_op}
+use Rattle.client_file_calls.proofs.Reports.{report_size}
+use Rattle.client_session_calls.specs.SessionOps.{fore_channel, back_channel}
+use Rattle.client_mds_calls.specs.MdsCalls.{MdsCallValue, ExchangeId, CreateSession, OnSlot, SlotCallValue, ReclaimComplete, Open, LayoutGet, DeviceInfo, Write, Read, LayoutReturn, Renew}
+use Rattle.client_mds_calls.specs.MdsCompounds.{slot_ops, mds_ops}
 use Rattle.client_records.proofs.AnswersFit.{IsStateidInRange}
 
 -- ---- ranges

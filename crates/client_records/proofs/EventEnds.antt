@@ -8,10 +8,10 @@ use Rattle.nfs4_types.specs.declared.ids.DeviceId.{DeviceId}
 use Rattle.device_addr.specs.declared.net_addr.NetAddr.{NetAddr}
 use Rattle.cluster_model.specs.declared.ids.Mirror.{Mirror}
 use Rattle.mirror_writer.specs.Writers.{WriterSends, next_sent}
-use Rattle.mds_file_calls.specs.declared.open.OpenFile.{OpenFile}
-use Rattle.mds_calls.specs.declared.ask.MdsAsk.{MdsAsk}
-use Rattle.mds_calls.specs.declared.ask.MdsAsk.TheVariants as ask
-use Rattle.mds_calls.specs.MdsCalls.{MdsCallValue}
+use Rattle.client_file_calls.specs.declared.open.OpenFile.{OpenFile}
+use Rattle.client_mds_calls.specs.declared.ask.MdsAsk.{MdsAsk}
+use Rattle.client_mds_calls.specs.declared.ask.MdsAsk.TheVariants as ask
+use Rattle.client_mds_calls.specs.MdsCalls.{MdsCallValue}
 use Rattle.client_state.specs.declared.request.UserRequest.{UserRequest}
 use Rattle.client_state.specs.declared.layout.Layout.{Layout}
 use Rattle.client_state.specs.declared.asked.Asked.{Asked}

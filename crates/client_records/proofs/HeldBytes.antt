@@ -15,7 +15,7 @@ use Rattle.rpc_record.specs.declared.call.CallFault.TheVariants.{NotACall, RpcVe
 use Rattle.rpc_record.specs.declared.call.TheConstants.{RPC_VERSION}
 use Rattle.rpc_record.specs.Calls.{RpcCall, call_body, word_of, with_body, body_at, with_version, call_at}
 use Rattle.rpc_record.specs.Replies.{RpcReply, is_success, header_at, results_at, reply_at}
-use Rattle.mds_parts.specs.MdsResults.{one_in, in_arm, done_as}
+use Rattle.client_compounds.specs.MdsResults.{one_in, in_arm, done_as}
 use Rattle.client_records.specs.ClientRecords.{AreBytes}
 use Rattle.client_records.proofs.Cases.{IsCallOf}
 

@@ -8,7 +8,7 @@ use Rattle.device_addr.specs.declared.net_addr.NetAddr.{NetAddr}
 use Rattle.cluster_model.specs.declared.ids.NodeId.TheVariants.{Mds, Server, Client}
 use Rattle.cluster_model.specs.declared.entry.Entry.TheVariants.{Sent, Rogue, Told, TimedOut, Answer}
 use Rattle.cluster_model.specs.DsCalls as ds
-use Rattle.mds_file_calls.specs.declared.open.OpenFile.{OpenFile}
+use Rattle.client_file_calls.specs.declared.open.OpenFile.{OpenFile}
 use Rattle.client_state.specs.declared.tie.Tie.{Tie}
 use Rattle.cluster_model.specs.DsCalls.{DsCallValue}
 use Rattle.rpc_record.specs.CallNumbers.{IsBelow}
@@ -23,7 +23,7 @@ use Rattle.client_calls.specs.ClientCalls.{xid_after}
 use Rattle.client_calls.specs.ClientLaws.{new_number}
 use Rattle.client_answers.specs.ClientMirrors.{has_writer}
 use Rattle.client_answers.specs.ClientAnswers.{learns_devices}
-use Rattle.mds_calls.specs.FittingCalls.{reports_server}
+use Rattle.client_mds_calls.specs.FittingCalls.{reports_server}
 use Rattle.client_laws.specs.ClientHistory.{ClientInput, Requested, Recorded, TimeoutOf, LeftProtocol, HistoryItem, Hears, Enters, Sends, HasItem, entered}
 use Rattle.client_laws.proofs.Orders.{in_more, in_end}
 use Rattle.client_laws.proofs.Places.{Found, found, same_number}

@@ -7,7 +7,7 @@ use Rattle.cluster_model.specs.declared.entry.Entry.TheVariants.{Told}
 use Rattle.mirror_writer.specs.declared.call.TakenWrite.{TakenWrite}
 use Rattle.mirror_writer.specs.Writers.{WriterValue}
 use Rattle.mirror_writer.specs.Outstanding.{is_covered_everywhere}
-use Rattle.mds_file_calls.specs.declared.open.OpenFile.{OpenFile}
+use Rattle.client_file_calls.specs.declared.open.OpenFile.{OpenFile}
 use Rattle.client_state.specs.declared.layout.Layout.{Layout}
 use Rattle.client_state.specs.ClientStates.{ClientValue}
 use Rattle.client_answers.specs.ClientMirrors.{told_entry, told_entries, counted_on, tells, tells_covered}

@@ -5,9 +5,9 @@ use Rattle.std.specs.List.{AllByRecursion}
 use Rattle.cluster_model.specs.declared.limits.TheConstants.{MAX_FILE, PIECE_SIZE}
 use Rattle.rpc_record.specs.CallNumbers.{IsBelow}
 use Rattle.ds_calls.specs.DsCallLaws.{HasRecord}
-use Rattle.mds_calls.specs.MdsCalls.{MdsCallValue}
-use Rattle.mds_calls.specs.MdsCallLaws.{HasCompoundRecord}
-use Rattle.mds_calls.specs.MdsCompounds.{mds_call_bytes}
+use Rattle.client_mds_calls.specs.MdsCalls.{MdsCallValue}
+use Rattle.client_mds_calls.specs.MdsCallLaws.{HasCompoundRecord}
+use Rattle.client_mds_calls.specs.MdsCompounds.{mds_call_bytes}
 use Rattle.client_state.specs.declared.request.UserRequest.{UserRequest}
 use Rattle.client_state.specs.declared.request.UserRequest.TheVariants.{Open, Write, Through, Commit, Read, Return}
 use Rattle.client_state.specs.ClientStates.{fresh_client}

@@ -9,16 +9,16 @@ use Rattle.ff_xdr.specs.Reading.{reading, whole}
 use Rattle.rpc_record.specs.Replies.{RpcReply, is_success}
 use Rattle.nfs4_compound.specs.Results.{resop4}
 use Rattle.nfs4_compound.specs.Compounds.{compound4_res}
-use Rattle.mds_parts.specs.MdsResults.{one_in, in_arm, is_done_result, sequence_ok}
-use Rattle.mds_session_calls.specs.SessionResults.{exchange_id_results, create_session_results, reclaim_complete_results, renew_results}
-use Rattle.mds_file_calls.specs.declared.grant.LayoutGrant.{LayoutGrant}
-use Rattle.mds_file_calls.specs.FileResults.{put_fh_ok, layout_get_ok, open_results, layout_get_results, device_info_results, write_results, read_results, layout_return_results}
-use Rattle.mds_calls.specs.declared.ask.MdsAsk.{MdsAsk}
-use Rattle.mds_calls.specs.declared.ask.MdsAsk.TheVariants as ask
-use Rattle.mds_calls.specs.declared.reply.SlotReport.{SlotReport}
-use Rattle.mds_calls.specs.declared.reply.SlotReport.TheVariants.{Taken, Uncached, Delayed, Unknown}
-use Rattle.mds_calls.specs.MdsCalls.{takes_slot}
-use Rattle.mds_calls.specs.MdsReplies.{MdsAnswerValue, Client, Session, Opened, Granted, Refused, MdsReplyValue, answer_if, answer_where, results_of_ask, slot_result, slot_answer_of, slot_told, compound_answer, compound_reply, odd_mds_reply, reply_of_ask}
+use Rattle.client_compounds.specs.MdsResults.{one_in, in_arm, is_done_result, sequence_ok}
+use Rattle.client_session_calls.specs.SessionResults.{exchange_id_results, create_session_results, reclaim_complete_results, renew_results}
+use Rattle.client_file_calls.specs.declared.grant.LayoutGrant.{LayoutGrant}
+use Rattle.client_file_calls.specs.FileResults.{put_fh_ok, layout_get_ok, open_results, layout_get_results, device_info_results, write_results, read_results, layout_return_results}
+use Rattle.client_mds_calls.specs.declared.ask.MdsAsk.{MdsAsk}
+use Rattle.client_mds_calls.specs.declared.ask.MdsAsk.TheVariants as ask
+use Rattle.client_mds_calls.specs.declared.reply.SlotReport.{SlotReport}
+use Rattle.client_mds_calls.specs.declared.reply.SlotReport.TheVariants.{Taken, Uncached, Delayed, Unknown}
+use Rattle.client_mds_calls.specs.MdsCalls.{takes_slot}
+use Rattle.client_mds_calls.specs.MdsReplies.{MdsAnswerValue, Client, Session, Opened, Granted, Refused, MdsReplyValue, answer_if, answer_where, results_of_ask, slot_result, slot_answer_of, slot_told, compound_answer, compound_reply, odd_mds_reply, reply_of_ask}
 
 -- ---- refusals
 

@@ -11,7 +11,7 @@ use Rattle.mirror_writer.specs.declared.step.WriterStep.{WriterStep}
 use Rattle.mirror_writer.specs.declared.step.WriterStep.TheVariants as step
 use Rattle.mirror_writer.specs.Writers.{WriterMirror, WriterValue, WriterAfter, with_writer_mirror, with_writer_call, with_commit, fails, is_fenced_by, refused_by, write_answered, after_commit, open_committed, commit_answered, call_answered, mirror_answered, answered_at, mirror_of_call, after_reply, timed_out_as, call_timed_out, mirror_timed_out, timed_out_at, after_timeout}
 use Rattle.cluster_model.specs.declared.phase.LeftCause.TheVariants.{Error, Timeouts}
-use Rattle.mds_calls.specs.MdsCalls as slot
+use Rattle.client_mds_calls.specs.MdsCalls as slot
 use Rattle.client_sessions.specs.LayoutEnds.{IsFenceStatus}
 
 -- ---- by which answer a layout is lost

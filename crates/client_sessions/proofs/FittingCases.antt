@@ -8,9 +8,9 @@ use Rattle.cluster_model.specs.declared.entry.Entry.TheVariants.{Told}
 use Rattle.ds_calls.specs.GivenReplies.{reply_of_call}
 use Rattle.mirror_writer.specs.declared.step.WriterStep.TheVariants as step
 use Rattle.mirror_writer.specs.Writers.{WriterAfter}
-use Rattle.mds_file_calls.specs.declared.open.OpenFile.{OpenFile}
-use Rattle.mds_file_calls.specs.declared.grant.LayoutGrant.{LayoutGrant}
-use Rattle.mds_calls.specs.MdsReplies.{Granted}
+use Rattle.client_file_calls.specs.declared.open.OpenFile.{OpenFile}
+use Rattle.client_file_calls.specs.declared.grant.LayoutGrant.{LayoutGrant}
+use Rattle.client_mds_calls.specs.MdsReplies.{Granted}
 use Rattle.client_state.specs.declared.layout.Layout.{Layout}
 use Rattle.client_state.specs.declared.asked.Asked.{Asked}
 use Rattle.client_state.specs.declared.tie.Tie.{Tie}

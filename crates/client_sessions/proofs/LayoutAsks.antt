@@ -5,14 +5,14 @@ use Rattle.std.proofs.lemmas.Option.{none-some, same_Some}
 use Rattle.nfs4_types.specs.declared.ids.SessionId.{SessionId}
 use Rattle.nfs4_types.specs.declared.stateid.Stateid.{Stateid}
 use Rattle.cluster_model.specs.declared.ids.FileId.{FileId}
-use Rattle.mds_file_calls.specs.declared.open.OpenFile.{OpenFile}
-use Rattle.mds_file_calls.specs.declared.grant.LayoutGrant.{LayoutGrant}
-use Rattle.mds_file_calls.specs.declared.layout_return.FailedMirror.{FailedMirror}
-use Rattle.mds_calls.specs.declared.ask.MdsAsk.{MdsAsk}
-use Rattle.mds_calls.specs.declared.ask.MdsAsk.TheVariants as ask
-use Rattle.mds_calls.specs.MdsCalls.{MdsCallValue, ExchangeId, CreateSession, OnSlot, SlotCallValue, ask_of}
-use Rattle.mds_calls.specs.MdsCalls as slot
-use Rattle.mds_calls.specs.MdsCompounds.{mds_call_bytes}
+use Rattle.client_file_calls.specs.declared.open.OpenFile.{OpenFile}
+use Rattle.client_file_calls.specs.declared.grant.LayoutGrant.{LayoutGrant}
+use Rattle.client_file_calls.specs.declared.layout_return.FailedMirror.{FailedMirror}
+use Rattle.client_mds_calls.specs.declared.ask.MdsAsk.{MdsAsk}
+use Rattle.client_mds_calls.specs.declared.ask.MdsAsk.TheVariants as ask
+use Rattle.client_mds_calls.specs.MdsCalls.{MdsCallValue, ExchangeId, CreateSession, OnSlot, SlotCallValue, ask_of}
+use Rattle.client_mds_calls.specs.MdsCalls as slot
+use Rattle.client_mds_calls.specs.MdsCompounds.{mds_call_bytes}
 use Rattle.client_state.specs.declared.layout.Layout.{Layout}
 use Rattle.client_state.specs.declared.asked.Asked.{Asked}
 use Rattle.client_state.specs.declared.tie.Tie.{Tie}

@@ -7,8 +7,8 @@ use Rattle.std.proofs.lemmas.Bool.{eqb-true}
 use Rattle.nfs4_types.specs.declared.ids.SessionId.{SessionId}
 use Rattle.nfs4_session.specs.Slots.{sequence_after}
 use Rattle.cluster_model.specs.declared.ids.NodeId.TheVariants.{Mds}
-use Rattle.mds_calls.specs.MdsCalls.{MdsCallValue, SlotCallValue, ExchangeId, CreateSession, OnSlot}
-use Rattle.mds_calls.specs.MdsReplies.{MdsReplyValue, Client}
+use Rattle.client_mds_calls.specs.MdsCalls.{MdsCallValue, SlotCallValue, ExchangeId, CreateSession, OnSlot}
+use Rattle.client_mds_calls.specs.MdsReplies.{MdsReplyValue, Client}
 use Rattle.client_state.specs.ClientSends.{ClientSend, CallsServer, CallsMds, RepeatsToServer, RepeatsToMds, RepliesToMds}
 use Rattle.client_laws.specs.ClientHistory.{HistoryItem, Hears, Enters, Sends, Recorded, HasItem, Each}
 use Rattle.client_sessions.specs.HeardReplies.{IsHeard, IsNoCompound}

@@ -7,14 +7,14 @@ use Rattle.nfs4_types.specs.declared.stateid.Stateid.{Stateid}
 use Rattle.cluster_model.specs.declared.ids.NodeId.TheVariants.{Mds}
 use Rattle.cluster_model.specs.declared.ids.FileId.{FileId}
 use Rattle.mirror_writer.specs.Writers.{WriterValue, new_writer}
-use Rattle.mds_file_calls.specs.declared.open.OpenFile.{OpenFile}
-use Rattle.mds_file_calls.specs.declared.grant.LayoutGrant.{LayoutGrant}
-use Rattle.mds_calls.specs.declared.ask.MdsAsk.{MdsAsk}
-use Rattle.mds_calls.specs.declared.ask.MdsAsk.TheVariants as ask
-use Rattle.mds_calls.specs.declared.reply.SlotReport.TheVariants.{Delayed}
-use Rattle.mds_calls.specs.MdsCalls.{MdsCallValue, ExchangeId, CreateSession, OnSlot, SlotCallValue, ask_on_slot, ask_of}
-use Rattle.mds_calls.specs.MdsCalls as slot
-use Rattle.mds_calls.specs.MdsReplies.{MdsAnswerValue, MdsReplyValue, Granted, Returned, Refused, reply_of_ask}
+use Rattle.client_file_calls.specs.declared.open.OpenFile.{OpenFile}
+use Rattle.client_file_calls.specs.declared.grant.LayoutGrant.{LayoutGrant}
+use Rattle.client_mds_calls.specs.declared.ask.MdsAsk.{MdsAsk}
+use Rattle.client_mds_calls.specs.declared.ask.MdsAsk.TheVariants as ask
+use Rattle.client_mds_calls.specs.declared.reply.SlotReport.TheVariants.{Delayed}
+use Rattle.client_mds_calls.specs.MdsCalls.{MdsCallValue, ExchangeId, CreateSession, OnSlot, SlotCallValue, ask_on_slot, ask_of}
+use Rattle.client_mds_calls.specs.MdsCalls as slot
+use Rattle.client_mds_calls.specs.MdsReplies.{MdsAnswerValue, MdsReplyValue, Granted, Returned, Refused, reply_of_ask}
 use Rattle.client_state.specs.declared.layout.Layout.{Layout}
 use Rattle.client_state.specs.declared.asked.Asked.{Asked}
 use Rattle.client_state.specs.declared.tie.Tie.{Tie}

@@ -8,12 +8,12 @@ use Rattle.cluster_model.specs.declared.ids.NodeId.TheVariants.{Mds, Server, Cli
 use Rattle.cluster_model.specs.declared.entry.Entry.TheVariants.{Sent, Rogue, Told, TimedOut, Answer}
 use Rattle.cluster_model.specs.DsCalls as ds
 use Rattle.mirror_writer.specs.Writers.{WriterAfter, commit_wanted, with_write}
-use Rattle.mds_file_calls.specs.declared.open.OpenFile.{OpenFile}
-use Rattle.mds_calls.specs.declared.ask.MdsAsk.{MdsAsk}
-use Rattle.mds_calls.specs.declared.ask.MdsAsk.TheVariants as ask
-use Rattle.mds_calls.specs.MdsCalls.{MdsCallValue, ExchangeId, CreateSession, OnSlot, takes_slot}
-use Rattle.mds_calls.specs.MdsCompounds.{mds_call_bytes}
-use Rattle.mds_calls.specs.MdsReplies.{Client, Session, Complete, Opened, Granted, Devices, Returned, Refused}
+use Rattle.client_file_calls.specs.declared.open.OpenFile.{OpenFile}
+use Rattle.client_mds_calls.specs.declared.ask.MdsAsk.{MdsAsk}
+use Rattle.client_mds_calls.specs.declared.ask.MdsAsk.TheVariants as ask
+use Rattle.client_mds_calls.specs.MdsCalls.{MdsCallValue, ExchangeId, CreateSession, OnSlot, takes_slot}
+use Rattle.client_mds_calls.specs.MdsCompounds.{mds_call_bytes}
+use Rattle.client_mds_calls.specs.MdsReplies.{Client, Session, Complete, Opened, Granted, Devices, Returned, Refused}
 use Rattle.client_state.specs.declared.stage.LayoutStage.{LayoutStage}
 use Rattle.client_state.specs.declared.stage.LayoutStage.TheVariants.{Writing, Ending, Deferred, Returning}
 use Rattle.client_state.specs.declared.layout.Layout.{Layout}

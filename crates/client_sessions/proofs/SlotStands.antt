@@ -11,14 +11,14 @@ use Rattle.nfs4_session.specs.CallbackSlot.{CbSlotState}
 use Rattle.nfs4_session.specs.Slots.{sequence_after}
 use Rattle.device_addr.specs.declared.net_addr.NetAddr.{NetAddr}
 use Rattle.cluster_model.specs.declared.ids.NodeId.TheVariants.{Mds}
-use Rattle.mds_file_calls.specs.declared.open.OpenFile.{OpenFile}
-use Rattle.mds_calls.specs.declared.ask.MdsAsk.{MdsAsk}
-use Rattle.mds_calls.specs.declared.ask.MdsAsk.TheVariants as ask
-use Rattle.mds_calls.specs.declared.reply.SlotReport.{SlotReport}
-use Rattle.mds_calls.specs.declared.reply.SlotReport.TheVariants.{Taken, Uncached, Delayed, Unknown}
-use Rattle.mds_calls.specs.MdsCalls.{MdsCallValue, ExchangeId, CreateSession, OnSlot, SlotCallValue, ask_of, takes_slot}
-use Rattle.mds_calls.specs.MdsCalls as slot
-use Rattle.mds_calls.specs.MdsReplies.{MdsReplyValue, Client, Session, Refused, reply_of_ask}
+use Rattle.client_file_calls.specs.declared.open.OpenFile.{OpenFile}
+use Rattle.client_mds_calls.specs.declared.ask.MdsAsk.{MdsAsk}
+use Rattle.client_mds_calls.specs.declared.ask.MdsAsk.TheVariants as ask
+use Rattle.client_mds_calls.specs.declared.reply.SlotReport.{SlotReport}
+use Rattle.client_mds_calls.specs.declared.reply.SlotReport.TheVariants.{Taken, Uncached, Delayed, Unknown}
+use Rattle.client_mds_calls.specs.MdsCalls.{MdsCallValue, ExchangeId, CreateSession, OnSlot, SlotCallValue, ask_of, takes_slot}
+use Rattle.client_mds_calls.specs.MdsCalls as slot
+use Rattle.client_mds_calls.specs.MdsReplies.{MdsReplyValue, Client, Session, Refused, reply_of_ask}
 use Rattle.client_state.specs.declared.layout.Layout.{Layout}
 use Rattle.client_state.specs.declared.asked.Asked.{Asked}
 use Rattle.client_state.specs.declared.tie.OwnSession.{OwnSession}

@@ -13,12 +13,12 @@ use Rattle.cluster_model.specs.declared.ids.Mirror.{Mirror}
 use Rattle.cluster_model.specs.declared.entry.Entry.TheVariants.{Sent, Rogue, Told, TimedOut, Answer}
 use Rattle.cluster_model.specs.DsCalls as ds
 use Rattle.mirror_writer.specs.Writers.{WriterSends, commit_wanted, with_write}
-use Rattle.mds_file_calls.specs.declared.open.OpenFile.{OpenFile}
-use Rattle.mds_calls.specs.declared.ask.MdsAsk.{MdsAsk}
-use Rattle.mds_calls.specs.declared.ask.MdsAsk.TheVariants as ask
-use Rattle.mds_calls.specs.MdsCalls.{MdsCallValue, takes_slot}
-use Rattle.mds_calls.specs.MdsCompounds.{mds_call_bytes}
-use Rattle.mds_calls.specs.MdsReplies.{MdsAnswerValue, Client, Session, Complete, Opened, Granted, Devices, Written, Bytes, Returned, Renewed, Refused}
+use Rattle.client_file_calls.specs.declared.open.OpenFile.{OpenFile}
+use Rattle.client_mds_calls.specs.declared.ask.MdsAsk.{MdsAsk}
+use Rattle.client_mds_calls.specs.declared.ask.MdsAsk.TheVariants as ask
+use Rattle.client_mds_calls.specs.MdsCalls.{MdsCallValue, takes_slot}
+use Rattle.client_mds_calls.specs.MdsCompounds.{mds_call_bytes}
+use Rattle.client_mds_calls.specs.MdsReplies.{MdsAnswerValue, Client, Session, Complete, Opened, Granted, Devices, Written, Bytes, Returned, Renewed, Refused}
 use Rattle.client_state.specs.declared.stage.LayoutStage.{LayoutStage}
 use Rattle.client_state.specs.declared.stage.LayoutStage.TheVariants.{Writing, Ending, Deferred, Returning}
 use Rattle.client_state.specs.declared.layout.Layout.{Layout}

@@ -10,12 +10,12 @@ use Rattle.cluster_model.specs.declared.phase.LeftCause.{LeftCause}
 use Rattle.cluster_model.specs.Journal.{is_mirror}
 use Rattle.cluster_model.specs.Mirrors.{has_server, are_on_different_servers}
 use Rattle.mirror_writer.specs.Writers.{new_mirror}
-use Rattle.mds_file_calls.specs.declared.layout_return.FailedMirror.{FailedMirror}
+use Rattle.client_file_calls.specs.declared.layout_return.FailedMirror.{FailedMirror}
 use Rattle.client_state.specs.declared.stage.LayoutStage.{LayoutStage}
 use Rattle.client_state.specs.ClientQueue.{is_writing}
 use Rattle.client_calls.specs.ClientCalls.{failed_mirrors}
 use Rattle.client_answers.specs.ClientMirrors.{with_status_at, reported_status}
-use Rattle.mds_calls.specs.FittingCalls.{reports_server}
+use Rattle.client_mds_calls.specs.FittingCalls.{reports_server}
 use Rattle.client_laws.proofs.GrantFacts.{IsSome}
 use Rattle.client_laws.proofs.Places.{map_set, position_passes}
 use Rattle.client_laws.proofs.Stands.{mirror_ids}

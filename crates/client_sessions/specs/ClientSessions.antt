@@ -3,9 +3,9 @@ use Rattle.std.specs.Prelude.{◌≡◌, ℕ, true, ◌⊎◌, List, [], ◌∷�
 use Rattle.std.specs.List.{AllByRecursion}
 use Rattle.nfs4_types.specs.declared.ids.SessionId.{SessionId}
 use Rattle.nfs4_session.specs.Slots.{sequence_after}
-use Rattle.mds_calls.specs.declared.reply.SlotReport.TheVariants.{Taken, Uncached, Unknown}
-use Rattle.mds_calls.specs.MdsCalls.{MdsCallValue, SlotCallValue, ExchangeId, CreateSession, OnSlot}
-use Rattle.mds_calls.specs.MdsReplies.{MdsReplyValue, Client, Session, Refused}
+use Rattle.client_mds_calls.specs.declared.reply.SlotReport.TheVariants.{Taken, Uncached, Unknown}
+use Rattle.client_mds_calls.specs.MdsCalls.{MdsCallValue, SlotCallValue, ExchangeId, CreateSession, OnSlot}
+use Rattle.client_mds_calls.specs.MdsReplies.{MdsReplyValue, Client, Session, Refused}
 use Rattle.client_answers.specs.ClientAnswers.{is_for_later}
 use Rattle.client_state.specs.ClientStates.{client_name, fresh_client}
 use Rattle.client_state.specs.ClientSends.{CallsMds}

@@ -3,7 +3,7 @@ use Rattle.std.specs.Prelude.{◌≡◌, ℕ, List}
 use Rattle.cluster_model.specs.declared.ids.FileId.{FileId}
 use Rattle.cluster_model.specs.declared.entry.Entry.{Entry}
 use Rattle.cluster_model.specs.declared.entry.Entry.TheVariants.{Sent, Rogue, Told}
-use Rattle.mds_file_calls.specs.declared.grant.LayoutGrant.{LayoutGrant}
+use Rattle.client_file_calls.specs.declared.grant.LayoutGrant.{LayoutGrant}
 use Rattle.client_laws.specs.ClientHistory.{HistoryItem}
 use Rattle.client_laws.specs.ClientHistory as client
 use Rattle.client_laws.specs.ClientRunLaws.{WasGranted}

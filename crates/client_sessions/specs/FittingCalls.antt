@@ -1,7 +1,7 @@
 -- The numbers of a client's compounds fit their forms (RFC 8881, sections 18.43, 18.44 and 18.46; RFC 8435, section 9.1.1).
 use Rattle.std.specs.Prelude.{ℕ, List, []}
 use Rattle.std.specs.List.{AllByRecursion}
-use Rattle.mds_calls.specs.FittingCalls.{FitsAsked}
+use Rattle.client_mds_calls.specs.FittingCalls.{FitsAsked}
 use Rattle.client_state.specs.ClientStates.{fresh_client}
 use Rattle.client_state.specs.ClientSends.{CallsMds}
 use Rattle.client_laws.specs.ClientHistory.{ClientInput, HistoryItem, Sends, Each, client_history}

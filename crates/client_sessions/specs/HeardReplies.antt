@@ -2,8 +2,8 @@
 use Rattle.std.specs.Prelude.{◌≡◌, ℕ, List, [], ◌∷◌, ◌++◌, Ok}
 use Rattle.rpc_record.specs.Replies.{RpcReply, reply_at}
 use Rattle.cluster_model.specs.declared.ids.NodeId.TheVariants.{Mds}
-use Rattle.mds_calls.specs.MdsCalls.{MdsCallValue, ask_of}
-use Rattle.mds_calls.specs.MdsReplies.{MdsReplyValue, reply_of_ask}
+use Rattle.client_mds_calls.specs.MdsCalls.{MdsCallValue, ask_of}
+use Rattle.client_mds_calls.specs.MdsReplies.{MdsReplyValue, reply_of_ask}
 use Rattle.client_state.specs.ClientSends.{CallsMds}
 use Rattle.client_laws.specs.ClientHistory.{Recorded, HistoryItem, Hears, Enters, Sends}
 

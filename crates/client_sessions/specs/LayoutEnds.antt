@@ -12,14 +12,14 @@ use Rattle.mirror_writer.specs.declared.mirror.TheConstants.{ACCES, STALE}
 use Rattle.cluster_model.specs.declared.ids.NodeId.TheVariants.{Server}
 use Rattle.cluster_model.specs.declared.ds_call.Shown.{Shown}
 use Rattle.cluster_model.specs.DsCalls.{DsCallValue, Write, Commit, Failed}
-use Rattle.mds_file_calls.specs.declared.open.OpenFile.{OpenFile}
-use Rattle.mds_file_calls.specs.declared.grant.LayoutGrant.{LayoutGrant}
-use Rattle.mds_file_calls.specs.declared.layout_return.FailedMirror.{FailedMirror}
-use Rattle.mds_calls.specs.declared.reply.SlotReport.TheVariants.{Delayed}
-use Rattle.mds_calls.specs.FittingCalls.{reports_server}
-use Rattle.mds_calls.specs.MdsCalls.{MdsCallValue, SlotCallValue, OnSlot}
-use Rattle.mds_calls.specs.MdsCalls as slot
-use Rattle.mds_calls.specs.MdsReplies.{MdsReplyValue, Granted, Returned, Refused}
+use Rattle.client_file_calls.specs.declared.open.OpenFile.{OpenFile}
+use Rattle.client_file_calls.specs.declared.grant.LayoutGrant.{LayoutGrant}
+use Rattle.client_file_calls.specs.declared.layout_return.FailedMirror.{FailedMirror}
+use Rattle.client_mds_calls.specs.declared.reply.SlotReport.TheVariants.{Delayed}
+use Rattle.client_mds_calls.specs.FittingCalls.{reports_server}
+use Rattle.client_mds_calls.specs.MdsCalls.{MdsCallValue, SlotCallValue, OnSlot}
+use Rattle.client_mds_calls.specs.MdsCalls as slot
+use Rattle.client_mds_calls.specs.MdsReplies.{MdsReplyValue, Granted, Returned, Refused}
 use Rattle.client_state.specs.declared.request.UserRequest.{UserRequest}
 use Rattle.client_state.specs.declared.request.UserRequest.TheVariants.{Write as ToWrite}
 use Rattle.client_state.specs.ClientStates.{fresh_client}

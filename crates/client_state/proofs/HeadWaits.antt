@@ -1,8 +1,8 @@
 -- A request at the head that is kept waits for something that is under way.
 use Rattle.std.proofs.Common.{◌≡◌, ℕ, Bool, true, false, ◌||◌, not, List, Option, Some, None, refl, ap, ◌∙◌, length}
 use Rattle.std.specs.Prelude.{◌==◌, if◌then◌else◌}
-use Rattle.mds_file_calls.specs.declared.open.OpenFile.{OpenFile}
-use Rattle.mds_calls.specs.declared.ask.MdsAsk.TheVariants as ask
+use Rattle.client_file_calls.specs.declared.open.OpenFile.{OpenFile}
+use Rattle.client_mds_calls.specs.declared.ask.MdsAsk.TheVariants as ask
 use Rattle.cluster_model.specs.declared.answer.UserAnswer.TheVariants as answer
 use Rattle.mirror_writer.specs.Writers.{overlaps_taken}
 use Rattle.client_state.specs.declared.stage.LayoutStage.{LayoutStage}

@@ -1,7 +1,7 @@
 -- The requests of the queue, one after the other.
 use Rattle.std.proofs.Common.{◌≡◌, List, [], ◌∷◌, ◌++◌, Option, Some, None, refl, sym, ap, ◌∙◌, subst, length, drop, arith, append-nil}
 use Rattle.cluster_model.specs.declared.outbox.Outbox.{Outbox}
-use Rattle.mds_calls.specs.declared.ask.MdsAsk.{MdsAsk}
+use Rattle.client_mds_calls.specs.declared.ask.MdsAsk.{MdsAsk}
 use Rattle.client_state.specs.declared.request.UserRequest.{UserRequest}
 use Rattle.client_state.specs.declared.head.JudgedHead.{JudgedHead}
 use Rattle.client_state.specs.declared.head.JudgedHead.TheVariants as head

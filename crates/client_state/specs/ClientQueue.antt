@@ -13,9 +13,9 @@ use Rattle.cluster_model.specs.declared.answer.FailCause.{FailCause}
 use Rattle.cluster_model.specs.declared.answer.FailCause.TheVariants as failing
 use Rattle.cluster_model.specs.declared.entry.Entry.TheVariants.{Sent, Answer}
 use Rattle.mirror_writer.specs.Writers.{WriterValue, overlaps_taken, with_write, commit_wanted}
-use Rattle.mds_file_calls.specs.declared.open.OpenFile.{OpenFile}
-use Rattle.mds_calls.specs.declared.ask.MdsAsk.{MdsAsk}
-use Rattle.mds_calls.specs.declared.ask.MdsAsk.TheVariants as ask
+use Rattle.client_file_calls.specs.declared.open.OpenFile.{OpenFile}
+use Rattle.client_mds_calls.specs.declared.ask.MdsAsk.{MdsAsk}
+use Rattle.client_mds_calls.specs.declared.ask.MdsAsk.TheVariants as ask
 use Rattle.client_state.specs.declared.stage.LayoutStage.{LayoutStage}
 use Rattle.client_state.specs.declared.stage.LayoutStage.TheVariants.{Writing, Ending, Deferred, Returning}
 use Rattle.client_state.specs.declared.request.UserRequest.{UserRequest}

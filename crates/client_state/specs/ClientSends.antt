@@ -6,8 +6,8 @@ use Rattle.cluster_model.specs.declared.ids.NodeId.TheVariants.{Mds, Server}
 use Rattle.cluster_model.specs.declared.entry.Entry.{Entry}
 use Rattle.cluster_model.specs.DsCalls.{DsCallValue}
 use Rattle.ds_calls.specs.MadeCalls.{ds_call_bytes}
-use Rattle.mds_calls.specs.MdsCalls.{MdsCallValue}
-use Rattle.mds_calls.specs.MdsCompounds.{mds_call_bytes}
+use Rattle.client_mds_calls.specs.MdsCalls.{MdsCallValue}
+use Rattle.client_mds_calls.specs.MdsCompounds.{mds_call_bytes}
 use Rattle.client_state.specs.ClientStates.{ClientValue, ClientRun}
 
 -- A call to a data server under a number, by a client of this name, under this uid; a compound; the same record of either again, of a

@@ -4,8 +4,8 @@ use Rattle.cluster_model.specs.declared.outbox.Outbox.{Outbox}
 use Rattle.mirror_writer.specs.declared.step.WriteStart.{WriteStart}
 use Rattle.mirror_writer.specs.declared.step.WriteStart.TheVariants.{Taken, Overlap, NoMemory}
 use Rattle.mirror_writer.specs.Writers.{overlaps_taken, with_write}
-use Rattle.mds_file_calls.specs.declared.open.OpenFile.{OpenFile}
-use Rattle.mds_calls.specs.declared.ask.MdsAsk.{MdsAsk}
+use Rattle.client_file_calls.specs.declared.open.OpenFile.{OpenFile}
+use Rattle.client_mds_calls.specs.declared.ask.MdsAsk.{MdsAsk}
 use Rattle.client_state.specs.declared.layout.Layout.{Layout}
 use Rattle.client_state.specs.declared.head.JudgedHead.{JudgedHead}
 use Rattle.client_state.specs.declared.head.JudgedHead.TheVariants as head

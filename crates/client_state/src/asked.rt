@@ -3,8 +3,8 @@
 ghost use Rattle.std.specs.Prelude.{◌≡◌};
 ghost use Rattle.client_state.specs.ClientStates.{is_layout_return};
 
+use client_mds_calls::MdsAsk;
 use ff_xdr::Data;
-use mds_calls::MdsAsk;
 
 /// The compound that is outstanding. It is late where its SEQUENCE was answered DELAY, so that the same record
 /// goes out at the next tick (RFC 8881, section 2.10.6.1).

@@ -11,9 +11,9 @@ use crate::devices::count_unknown;
 use crate::request::UserRequest;
 use crate::state::State;
 use crate::tie::Tie;
+use client_mds_calls::{MdsAsk, OpenFile};
 use cluster_model::{Entry, MAX_FILE, Outbox, UserAnswer};
 use ff_xdr::NoMemory;
-use mds_calls::{MdsAsk, OpenFile};
 use mirror_writer::{WriteBytes, WriteStart};
 
 /// NFS4ERR_INVAL: a file is open (RFC 8881, section 15.1).

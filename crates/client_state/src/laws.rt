@@ -1,7 +1,7 @@
 //! What holds of the queue of a client.
 
 ghost use Rattle.std.specs.Prelude.{Option};
-ghost use Rattle.mds_file_calls.specs.declared.open.OpenFile.{OpenFile};
+ghost use Rattle.client_file_calls.specs.declared.open.OpenFile.{OpenFile};
 ghost use Rattle.client_state.specs.declared.request.UserRequest.{UserRequest};
 ghost use Rattle.client_state.specs.ClientStates.{ClientValue};
 ghost use Rattle.client_state.specs.ClientQueue.{head_step};

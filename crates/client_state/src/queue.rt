@@ -6,9 +6,9 @@ ghost use Rattle.client_state.specs.QueueSteps.{HasRunQueue};
 
 use crate::head::JudgedHead;
 use crate::state::State;
+use client_mds_calls::MdsAsk;
 use cluster_model::Outbox;
 use ff_xdr::NoMemory;
-use mds_calls::MdsAsk;
 
 impl State {
     /// The requests are done in order, up to the first that waits. Answers what that one wants asked of the metadata

@@ -15,7 +15,7 @@ use crate::refused::refusal;
 use cluster_model::NodeId;
 use compound_reply::Results;
 use ff_xdr::NoMemory;
-use mds_operations::Object;
+use mds_refusals::Object;
 use nfs4_compound::{OpRes, Ops};
 use nfs4_session::SlotPass;
 use nfs4_types::Stat4;

@@ -12,14 +12,14 @@ use Rattle.cluster_model.specs.File.{StoredFile, FileOp, Writes, Commits, Sets, 
 use Rattle.cluster_model.specs.Server.{max_total, max_ticks, OnFile, on_file}
 use Rattle.cluster_model.proofs.Placing.{length-overlay}
 use Rattle.cluster_model.proofs.Files.{shown-written}
-use Rattle.ds_procedures.specs.declared.superblock.Superblock.{Superblock}
-use Rattle.ds_procedures.specs.Superblocks.{IsServer, server_of}
+use Rattle.ds_procedures.specs.declared.server_base.ServerBase.{ServerBase}
+use Rattle.ds_procedures.specs.ServerBases.{IsServer, server_of}
 use Rattle.ds_procedures.specs.CodePlans.{HasRoom, IsReady}
 use Rattle.ds_files.specs.CarriedOut.{IsCarriedOut, head_after, clock_by}
 use Rattle.ds_procedures.proofs.Places.{size_le_total}
 
 -- one file is changed: the sizes together, and the count of ticks
-pub keeps_sizes : (h : Superblock) (files : List StoredFile) (index : ℕ) (f file : StoredFile) (clock : Tick) → IsServer h files → f ≡ get_or files index f → index < length files
+pub keeps_sizes : (h : ServerBase) (files : List StoredFile) (index : ℕ) (f file : StoredFile) (clock : Tick) → IsServer h files → f ≡ get_or files index f → index < length files
     → h.total - length (shown f) + length (shown file) ≤ max_total → clock.count ≤ max_ticks → IsServer (record h { clock = clock; total = h.total - length (shown f) + length (shown file) }) (set files index file)
 keeps_sizes h files index f file clock k is lt room le =
     let there = slice_get_read files (length files) index f refl lt is in
@@ -30,7 +30,7 @@ keeps_sizes h files index f file clock k is lt room le =
     record { total = omega (arith, one, old, total, part); bounded = room; ticks = le; named = k.named ∙ sym (length-set files index file) }
 
 -- the state after what is done to the file at an index
-state_is : (h h' : Superblock) (files : List StoredFile) (index : ℕ) (f file : StoredFile) (op : FileOp) → f ≡ get_or files index f → index < length files → file ≡ file_after f h.clock op
+state_is : (h h' : ServerBase) (files : List StoredFile) (index : ℕ) (f file : StoredFile) (op : FileOp) → f ≡ get_or files index f → index < length files → file ≡ file_after f h.clock op
     → h'.number ≡ h.number → h'.clock ≡ clock_after h.clock op → h'.root ≡ h.root → h'.names ≡ h.names → server_of h' (set files index file) ≡ on_file (server_of h files) index op (slice_get files index)
 state_is h h' files index f file op is lt made number clock root names =
     let there : slice_get files index ≡ Some f = slice_get_read files (length files) index f refl lt is in
@@ -39,13 +39,13 @@ state_is h h' files index f file op is lt made number clock root names =
 -- ---- WRITE
 
 -- the size of a file after a write for which there is room
-room_after : (h : Superblock) (at : ℕ) (old bytes : List ℕ) → length old ≤ h.total → h.total ≤ max_total → HasRoom h (length old) at (length bytes) → h.total - length old + length (overlay old at bytes) ≤ max_total
+room_after : (h : ServerBase) (at : ℕ) (old bytes : List ℕ) → length old ≤ h.total → h.total ≤ max_total → HasRoom h (length old) at (length bytes) → h.total - length old + length (overlay old at bytes) ≤ max_total
 room_after h at old [] part bounded g = omega arith
 room_after h at old (b ∷ bytes) part bounded g =
     let room : h.total - length old + max (length old) (at + length (b ∷ bytes)) ≤ max_total = g.room (omega arith) in
     omega (arith, room, length-overlay old at b bytes)
 
-ticks_after : (h : Superblock) (size at : ℕ) (bytes : List ℕ) → h.clock.count ≤ max_ticks → HasRoom h size at (length bytes) → (clock_by h.clock bytes).count ≤ max_ticks
+ticks_after : (h : ServerBase) (size at : ℕ) (bytes : List ℕ) → h.clock.count ≤ max_ticks → HasRoom h size at (length bytes) → (clock_by h.clock bytes).count ≤ max_ticks
 ticks_after h size at [] le g = le
 ticks_after h size at (b ∷ bytes) le g =
     let less : h.clock.count < max_ticks = g.tick (omega arith) in
@@ -55,7 +55,7 @@ clock_is : (clock : Tick) (at : ℕ) (synced : Bool) (bytes : List ℕ) → cloc
 clock_is clock at synced [] = refl
 clock_is clock at synced (b ∷ bytes) = refl
 
-module _ (h : Superblock) (files : List StoredFile) (index : ℕ) (f : StoredFile) (at : ℕ) (synced : Bool) (bytes : List ℕ) (k : IsServer h files) (is : f ≡ get_or files index f) (ready : IsReady h files (OnFile index (Writes at synced bytes))) where
+module _ (h : ServerBase) (files : List StoredFile) (index : ℕ) (f : StoredFile) (at : ℕ) (synced : Bool) (bytes : List ℕ) (k : IsServer h files) (is : f ≡ get_or files index f) (ready : IsReady h files (OnFile index (Writes at synced bytes))) where
   pub room_of : HasRoom h (length (shown f)) at (length bytes)
   room_of = ready.1 f (slice_get_read files (length files) index f refl ready.0 is)
 
@@ -77,7 +77,7 @@ module _ (h : Superblock) (files : List StoredFile) (index : ℕ) (f : StoredFil
 
 -- ---- COMMIT and SETATTR, which show as many bytes as before
 
-same_total : (h : Superblock) (files : List StoredFile) (index : ℕ) (f file : StoredFile) (clock : Tick) → IsServer h files → f ≡ get_or files index f → index < length files → length (shown file) ≡ length (shown f) → clock.count ≤ max_ticks
+same_total : (h : ServerBase) (files : List StoredFile) (index : ℕ) (f file : StoredFile) (clock : Tick) → IsServer h files → f ≡ get_or files index f → index < length files → length (shown file) ≡ length (shown f) → clock.count ≤ max_ticks
     → IsServer (record h { clock = clock }) (set files index file)
 same_total h files index f file clock k is lt same le =
     let there = slice_get_read files (length files) index f refl lt is in
@@ -87,14 +87,14 @@ same_total h files index f file clock k is lt same le =
     let part = size_le_total files index f there in
     record { total = omega (arith, one, old, total, part, same); bounded = k.bounded; ticks = le; named = k.named ∙ sym (length-set files index file) }
 
-pub commits : (h : Superblock) (files : List StoredFile) (index : ℕ) (f file : StoredFile) → IsServer h files → f ≡ get_or files index f → index < length files → file ≡ committed f → IsCarriedOut h files (OnFile index Commits) h (set files index file)
+pub commits : (h : ServerBase) (files : List StoredFile) (index : ℕ) (f file : StoredFile) → IsServer h files → f ≡ get_or files index f → index < length files → file ≡ committed f → IsCarriedOut h files (OnFile index Commits) h (set files index file)
 commits h files index f file k is lt made =
     let size : length (shown file) ≡ length (shown f) = ap (λ (x : StoredFile). length (shown x)) made in
     record { state = state_is h h files index f file Commits is lt made refl refl refl refl; keeps = same_total h files index f file h.clock k is lt size k.ticks }
 
-pub sets : (h : Superblock) (files : List StoredFile) (index : ℕ) (f file : StoredFile) (changes : Changes) → IsServer h files → f ≡ get_or files index f → index < length files → h.clock.count < max_ticks
+pub sets : (h : ServerBase) (files : List StoredFile) (index : ℕ) (f file : StoredFile) (changes : Changes) → IsServer h files → f ≡ get_or files index f → index < length files → h.clock.count < max_ticks
     → file ≡ set_attributes f (next_tick h.clock) changes → IsCarriedOut h files (OnFile index (Sets changes)) (record h { clock = next_tick h.clock }) (set files index file)
 sets h files index f file changes k is lt less made =
     let size : length (shown file) ≡ length (shown f) = ap (λ (x : StoredFile). length (shown x)) made in
-    let h' : Superblock = record h { clock = next_tick h.clock } in
+    let h' : ServerBase = record h { clock = next_tick h.clock } in
     record { state = state_is h h' files index f file (Sets changes) is lt made refl refl refl refl; keeps = same_total h files index f file (next_tick h.clock) k is lt size (omega (arith, less)) }

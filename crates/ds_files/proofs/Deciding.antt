@@ -7,13 +7,13 @@ use Rattle.cluster_model.specs.declared.ids.NodeId.{NodeId}
 use Rattle.cluster_model.specs.declared.outbox.Outbox.{Outbox}
 use Rattle.cluster_model.specs.File.{StoredFile}
 use Rattle.cluster_model.specs.Server.{ServerState, Effect, server_after, entries_of}
-use Rattle.ds_procedures.specs.declared.superblock.Superblock.{Superblock}
+use Rattle.ds_procedures.specs.declared.server_base.ServerBase.{ServerBase}
 use Rattle.ds_procedures.specs.Answer.{Answer}
 use Rattle.ds_procedures.specs.CodePlans.{IsReady}
 use Rattle.ds_procedures.specs.Objects.{caller_of}
 use Rattle.ds_procedures.specs.Plans.{Plan, carried_out}
 use Rattle.ds_procedures.specs.Steps.{plan_of, step_of}
-use Rattle.ds_procedures.specs.Superblocks.{IsServer, server_of}
+use Rattle.ds_procedures.specs.ServerBases.{IsServer, server_of}
 use Rattle.ds_files.specs.declared.logging.Logging.{Logging}
 use Rattle.ds_files.specs.Decisions.{call_effect, effect_by, effect_of, superblock_of, IsWellMade, CanDo, Decides, DecidesCall}
 use Rattle.ds_files.specs.Laws.{IsRefusedReply, IsTurnedAway}
@@ -36,17 +36,17 @@ after_record s bytes = after_effect s (received bytes)
 -- ---- what can be carried out
 
 -- the numbers of a server are those that the code keeps
-superblock_is : (h : Superblock) (files : List StoredFile) → IsServer h files → h ≡ superblock_of (server_of h files)
-superblock_is h files k = ap (λ (total : ℕ). let other : Superblock = record h { total = total } in other) k.total
+superblock_is : (h : ServerBase) (files : List StoredFile) → IsServer h files → h ≡ superblock_of (server_of h files)
+superblock_is h files k = ap (λ (total : ℕ). let other : ServerBase = record h { total = total } in other) k.total
 
-pub ready_of : (h : Superblock) (files : List StoredFile) (s : ServerState) (effect : Effect) → IsServer h files → server_of h files ≡ s → CanDo s effect → IsReady h files effect
+pub ready_of : (h : ServerBase) (files : List StoredFile) (s : ServerState) (effect : Effect) → IsServer h files → server_of h files ≡ s → CanDo s effect → IsReady h files effect
 ready_of h files s what k is can =
     let here : CanDo (server_of h files) what = subst (λ (t : ServerState). CanDo t what) (sym is) can in
-    subst (λ (g : Superblock). IsReady g files what) (sym (superblock_is h files k)) here.ready
+    subst (λ (g : ServerBase). IsReady g files what) (sym (superblock_is h files k)) here.ready
 
 -- ---- a plan is a decision
 
-module _ (h : Superblock) (files : List StoredFile) (s : ServerState) (call : Nfs3Call) (cred : Credential) (p : Plan) (k : IsServer h files) (server : server_of h files ≡ s) (is : p ≡ plan_of (server_of h files) call (caller_of cred)) (ready : IsReady h files p.effect) where
+module _ (h : ServerBase) (files : List StoredFile) (s : ServerState) (call : Nfs3Call) (cred : Credential) (p : Plan) (k : IsServer h files) (server : server_of h files ≡ s) (is : p ≡ plan_of (server_of h files) call (caller_of cred)) (ready : IsReady h files p.effect) where
   plan_is : p ≡ plan_of s call (caller_of cred)
   plan_is = is ∙ ap (λ (t : ServerState). plan_of t call (caller_of cred)) server
 
@@ -56,7 +56,7 @@ module _ (h : Superblock) (files : List StoredFile) (s : ServerState) (call : Nf
   can_do : CanDo s p.effect
   can_do =
       let made : IsWellMade p.effect = subst IsWellMade (sym effect_is) (well_made s call cred) in
-      let here : IsReady (superblock_of (server_of h files)) files p.effect = subst (λ (g : Superblock). IsReady g files p.effect) (superblock_is h files k) ready in
+      let here : IsReady (superblock_of (server_of h files)) files p.effect = subst (λ (g : ServerBase). IsReady g files p.effect) (superblock_is h files k) ready in
       let there : CanDo (server_of h files) p.effect = record { ready = here; made = made } in
       subst (λ (t : ServerState). CanDo t p.effect) server there
 

@@ -8,8 +8,8 @@ use Rattle.cluster_model.specs.Content.{Content, survived, pieces_of}
 use Rattle.cluster_model.specs.File.{StoredFile, shown}
 use Rattle.data_file.specs.Kept.{crashed}
 use Rattle.data_file.proofs.Undoing.{kept_le}
-use Rattle.ds_procedures.specs.declared.superblock.Superblock.{Superblock}
-use Rattle.ds_procedures.specs.Superblocks.{IsServer}
+use Rattle.ds_procedures.specs.declared.server_base.ServerBase.{ServerBase}
+use Rattle.ds_procedures.specs.ServerBases.{IsServer}
 use Rattle.cluster_model.specs.Server.{total_size}
 use Rattle.cluster_model.specs.Server.{files_restarted}
 use Rattle.ds_files.specs.Kept.{disk_of, AreBounded, AreKept, all_crashed}
@@ -47,7 +47,7 @@ pub fewer_bytes : (files : List StoredFile) (kept : List (Option Content)) → A
 fewer_bytes files kept bounded = fewer files kept (λ i f k there found. kept_le f k (bounded.each i f k there found))
 
 -- what holds of every server holds after a restart
-pub keeps : (h : Superblock) (files : List StoredFile) (kept : List (Option Content)) (total : ℕ) → IsServer h files → AreBounded files kept → total ≡ total_size (all_crashed files kept)
+pub keeps : (h : ServerBase) (files : List StoredFile) (kept : List (Option Content)) (total : ℕ) → IsServer h files → AreBounded files kept → total ≡ total_size (all_crashed files kept)
     → IsServer (record h { clock = rebooted h.clock; total = total }) (all_crashed files kept)
 keeps h files kept total k bounded is =
     let old = k.total in

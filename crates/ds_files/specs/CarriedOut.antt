@@ -4,11 +4,11 @@ use Rattle.cluster_model.specs.declared.tick.Tick.{Tick}
 use Rattle.cluster_model.specs.Ticks.{next_tick}
 use Rattle.cluster_model.specs.File.{StoredFile}
 use Rattle.cluster_model.specs.Server.{Effect, server_after}
-use Rattle.ds_procedures.specs.declared.superblock.Superblock.{Superblock}
-use Rattle.ds_procedures.specs.Superblocks.{IsServer, server_of}
+use Rattle.ds_procedures.specs.declared.server_base.ServerBase.{ServerBase}
+use Rattle.ds_procedures.specs.ServerBases.{IsServer, server_of}
 
 -- what was to be done is done, and the server is one
-pub record IsCarriedOut (h : Superblock) (files : List StoredFile) (effect : Effect) (h' : Superblock) (files' : List StoredFile) : Type 0 where
+pub record IsCarriedOut (h : ServerBase) (files : List StoredFile) (effect : Effect) (h' : ServerBase) (files' : List StoredFile) : Type 0 where
   pub state : server_of h' files' ≡ server_after (server_of h files) effect
   pub keeps : IsServer h' files'
 
@@ -17,5 +17,5 @@ abbrev pub clock_by : Tick → List ℕ → Tick
 clock_by clock [] = clock
 clock_by clock (b ∷ bytes) = next_tick clock
 
-abbrev pub head_after : Superblock → ℕ → ℕ → List ℕ → Superblock
+abbrev pub head_after : ServerBase → ℕ → ℕ → List ℕ → ServerBase
 head_after h before after bytes = record h { clock = clock_by h.clock bytes; total = h.total - before + after }

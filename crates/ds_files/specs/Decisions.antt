@@ -5,7 +5,7 @@ use Rattle.cluster_model.specs.File.{FileOp, Writes, Commits, Sets, Restarts}
 use Rattle.cluster_model.specs.Server.{ServerState, Effect, NoEffect, OnFile, NewFile, total_size}
 use Rattle.ds_procedures.specs.declared.lookup.TheConstants.{MAX_NAME}
 use Rattle.ds_procedures.specs.declared.setattr.TheConstants.{MODE_BITS}
-use Rattle.ds_procedures.specs.declared.superblock.Superblock.{Superblock}
+use Rattle.ds_procedures.specs.declared.server_base.ServerBase.{ServerBase}
 use Rattle.ds_procedures.specs.Answer.{Answer, answer_of}
 use Rattle.ds_procedures.specs.CodePlans.{IsReady}
 use Rattle.ds_procedures.specs.Objects.{caller_of}
@@ -32,7 +32,7 @@ effect_of s bytes = effect_by s (received bytes)
 -- ---- what can be carried out
 
 -- the numbers of a server
-abbrev pub superblock_of : ServerState → Superblock
+abbrev pub superblock_of : ServerState → ServerBase
 superblock_of s = record { number = s.number; clock = s.clock; root = s.root; names = s.names; total = total_size s.files }
 
 -- a mode that is named is permission bits

@@ -3,13 +3,13 @@
 ghost use Rattle.std.specs.Prelude.{◌≡◌, ◌+◌, ◌-◌, ◌≤◌, ◌<◌, ◌^◌, None, OnOk, OnErr, length};
 ghost use Rattle.cluster_model.specs.File.{Writes, Commits, Sets, written};
 ghost use Rattle.cluster_model.specs.Server.{OnFile, NewFile, max_total, max_file, max_ticks, index_of};
-ghost use Rattle.ds_procedures.specs.Superblocks.{IsServer};
+ghost use Rattle.ds_procedures.specs.ServerBases.{IsServer};
 ghost use Rattle.ds_procedures.specs.CodePlans.{IsReady, plain_effect};
 ghost use Rattle.ds_files.specs.CarriedOut.{IsCarriedOut, head_after};
 
 use cluster_model::{Changes, Tick};
 use data_file::DataFile;
-use ds_procedures::{Effect, Superblock, root_after};
+use ds_procedures::{Effect, ServerBase, root_after};
 use ff_xdr::NoMemory;
 use std::alloc::Global;
 
@@ -27,7 +27,7 @@ fn put(file: &mut DataFile, tick: Tick, at: u64, synced: bool, bytes: &[u8]) -> 
 }
 
 /// Counts a WRITE of the bytes, by the file's size before it and after it.
-fn count_write(head: &mut Superblock, before: u64, after: u64, bytes: &[u8])
+fn count_write(head: &mut ServerBase, before: u64, after: u64, bytes: &[u8])
     requires part { before ≤ head.old.total }
     requires bounded { head.old.total - before + after ≤ max_total }
     requires ticks { head.old.clock.count < 2 ^ 32 - 1 }
@@ -41,7 +41,7 @@ fn count_write(head: &mut Superblock, before: u64, after: u64, bytes: &[u8])
 
 /// Does a WRITE to the file at an index. At an error nothing has changed.
 fn write_file(
-    head: &mut Superblock,
+    head: &mut ServerBase,
     files: &mut [DataFile],
     index: usize,
     at: u64,
@@ -61,7 +61,7 @@ fn write_file(
 }
 
 /// Does a COMMIT of the file at an index. Takes no memory.
-fn commit_file(head: &Superblock, files: &mut [DataFile], index: usize)
+fn commit_file(head: &ServerBase, files: &mut [DataFile], index: usize)
     requires server { IsServer head.now files.old }
     requires within { index < length files.old }
     ensures { IsCarriedOut head.now files.old (OnFile index Commits) head.now files.new }
@@ -70,7 +70,7 @@ fn commit_file(head: &Superblock, files: &mut [DataFile], index: usize)
 }
 
 /// Does a SETATTR of the file at an index. Takes no memory.
-fn set_file(head: &mut Superblock, files: &mut [DataFile], index: usize, changes: &Changes)
+fn set_file(head: &mut ServerBase, files: &mut [DataFile], index: usize, changes: &Changes)
     requires server { IsServer head.old files.old }
     requires within { index < length files.old }
     requires ticks { head.old.clock.count < max_ticks }
@@ -84,7 +84,7 @@ fn set_file(head: &mut Superblock, files: &mut [DataFile], index: usize, changes
 /// Makes a file. At an error nothing has changed.
 fn make_file(
     alloc: Global,
-    head: &mut Superblock,
+    head: &mut ServerBase,
     files: &mut Vec<DataFile>,
     name: &[u8],
     owner: u32,
@@ -111,7 +111,7 @@ fn make_file(
 /// Does what is to be done. At an error nothing has changed.
 pub fn carry_out(
     alloc: Global,
-    head: &mut Superblock,
+    head: &mut ServerBase,
     files: &mut Vec<DataFile>,
     effect: &Effect<'_>,
 ) -> Result<(), NoMemory>

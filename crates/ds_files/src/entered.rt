@@ -2,14 +2,14 @@
 
 ghost use Rattle.std.specs.Prelude.{◌≡◌, ◌+◌, ◌<◌, ◌^◌, ◌++◌, IfOk};
 ghost use Rattle.cluster_model.specs.Server.{applied_entries, committed_entries, owner_entries, entries_of};
-ghost use Rattle.ds_procedures.specs.Superblocks.{server_of};
+ghost use Rattle.ds_procedures.specs.ServerBases.{server_of};
 ghost use Rattle.ds_procedures.specs.CodePlans.{plain_effect, IsReady};
 ghost use Rattle.ds_files.specs.Posts.{entries_made};
 
 use crate::logging::Logging;
 use cluster_model::{Cred, Entry, MirrorId};
 use data_file::DataFile;
-use ds_procedures::{Effect, Superblock};
+use ds_procedures::{Effect, ServerBase};
 use ff_xdr::{Data, NoMemory};
 use std::alloc::Global;
 
@@ -55,7 +55,7 @@ fn owner_entries(alloc: Global, mirror: MirrorId, uid: Option<u32>) -> Result<Ve
 }
 
 /// The mirror that the file at an index is.
-fn mirror_of(head: &Superblock, index: usize) -> MirrorId
+fn mirror_of(head: &ServerBase, index: usize) -> MirrorId
     requires { index + 2 < 2 ^ 64 }
     ensures { result ≡ record { server = head.now.number; fileid = index + 2 } }
 {
@@ -68,7 +68,7 @@ fn mirror_of(head: &Superblock, index: usize) -> MirrorId
 /// The entries of what is to be done for a user.
 pub fn entries_of(
     alloc: Global,
-    head: &Superblock,
+    head: &ServerBase,
     files: &[DataFile],
     effect: &Effect<'_>,
     uid: u32,
@@ -104,7 +104,7 @@ pub fn entries_of(
 pub fn entries_made(
     logging: Logging,
     alloc: Global,
-    head: &Superblock,
+    head: &ServerBase,
     files: &[DataFile],
     effect: &Effect<'_>,
     uid: u32,

@@ -2,12 +2,12 @@
 
 ghost use Rattle.std.specs.Prelude.{◌≡◌, ◌<◌, ◌≤◌, ◌+◌, ◌^◌, [], length, map, IfOk, OnOk, OnErr, IsTrue};
 ghost use Rattle.cluster_model.specs.Server.{total_size, max_boot, server_restarted};
-ghost use Rattle.ds_procedures.specs.Superblocks.{IsServer, server_of};
+ghost use Rattle.ds_procedures.specs.ServerBases.{IsServer, server_of};
 ghost use Rattle.ds_files.specs.Kept.{AreBounded, AreKept, KeepsPiece, IsOf, all_crashed};
 
 use cluster_model::{Piece, Tick};
 use data_file::{DataFile, Kept};
-use ds_procedures::Superblock;
+use ds_procedures::ServerBase;
 use std::alloc::{AllocError, Global};
 
 /// The fileid of the first file.
@@ -95,7 +95,7 @@ fn total_size(files: &[DataFile]) -> u64
 /// Starts a server again, in the next boot. At an error nothing has changed.
 pub fn restart_server(
     alloc: Global,
-    head: &mut Superblock,
+    head: &mut ServerBase,
     files: &mut [DataFile],
     pieces: &[Piece],
 ) -> Result<(), AllocError>

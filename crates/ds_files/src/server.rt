@@ -7,7 +7,7 @@ ghost use Rattle.cluster_model.specs.Server.{new_server, preset_server, restart_
 ghost use Rattle.ds_files.specs.Presets.{preset_after};
 ghost use Rattle.ds_files.specs.Stored.{stored_at};
 ghost use Rattle.ds_procedures.specs.Steps.{step_of};
-ghost use Rattle.ds_procedures.specs.Superblocks.{IsServer, server_of};
+ghost use Rattle.ds_procedures.specs.ServerBases.{IsServer, server_of};
 ghost use Rattle.ds_procedures.specs.Answer.{answer_of};
 ghost use Rattle.ds_procedures.specs.CodePlans.{plain_effect};
 ghost use Rattle.ds_files.specs.Receive.{Asked, received, outcome_of};
@@ -26,7 +26,7 @@ use crate::record::{encode, post, success, take_back};
 use crate::restart::restart_server;
 use cluster_model::{NodeId, Outbox, Piece, Tick, Times};
 use data_file::DataFile;
-use ds_procedures::{Answer3, Effect, Names, Superblock, plan_of};
+use ds_procedures::{Answer3, Effect, Names, ServerBase, plan_of};
 use ff_xdr::NoMemory;
 use nfs3_wire::Call3;
 use rpc_record::AuthSys;
@@ -63,13 +63,13 @@ impl From<AllocError> for RestartFault {
 #[derive(Drop)]
 pub struct DataServer {
     alloc: Global,
-    head: Superblock,
+    head: ServerBase,
     files: Vec<DataFile>,
 }
 
 impl Model for DataServer {
     ghost use Rattle.cluster_model.specs.Server.{ServerState};
-    ghost use Rattle.ds_procedures.specs.Superblocks.{server_of, IsServer};
+    ghost use Rattle.ds_procedures.specs.ServerBases.{server_of, IsServer};
 
     ghost Value = { ServerState };
 
@@ -103,7 +103,7 @@ impl DataServer {
     }
 
     /// A server of these parts. Takes no memory.
-    pub fn of_parts(alloc: Global, head: Superblock, files: Vec<DataFile>) -> DataServer
+    pub fn of_parts(alloc: Global, head: ServerBase, files: Vec<DataFile>) -> DataServer
         requires { IsServer head files.items }
         ensures { result ≡ server_of head files.items }
     {
@@ -122,7 +122,7 @@ impl DataServer {
             mtime: start,
             ctime: start,
         };
-        let head = Superblock {
+        let head = ServerBase {
             number,
             clock: start,
             root,
@@ -162,7 +162,7 @@ impl DataServer {
         };
         let mut names = Names::new(alloc);
         names.add(b"m1")?;
-        let head = Superblock {
+        let head = ServerBase {
             number: 1,
             clock: Tick { boot: 1, count },
             root,

@@ -10,7 +10,7 @@ use Rattle.cluster_model.specs.File.{StoredFile, shown, new_file}
 use Rattle.cluster_model.specs.Server.{max_total, root_after}
 use Rattle.cluster_model.proofs.Elements.{slice_get-set_other, slice_get-set_same, Pushed, Old, New, pushed}
 use Rattle.ds_procedures.specs.declared.setattr.TheConstants.{MODE_BITS}
-use Rattle.ds_procedures.specs.declared.superblock.Superblock.{Superblock}
+use Rattle.ds_procedures.specs.declared.server_base.ServerBase.{ServerBase}
 use Rattle.ds_procedures.proofs.Places.{size_le_total}
 use Rattle.ds_files.proofs.Carried.{keeps_sizes}
 use Rattle.ds_log.specs.Durable.{start_of, attributed}
@@ -21,7 +21,7 @@ use Rattle.ds_log.specs.Lasting.{IsLastingFile, IsLasting}
 later_file : (a b : ℕ) (f : StoredFile) → a ≤ b → IsLastingFile a f → IsLastingFile b f
 later_file a b f le k = record { settled = k.settled; times = k.times; mode = k.mode; ctime = omega (arith, le, k.ctime); size = k.size }
 
-pub begins : (h : Superblock) (files : List StoredFile) (boot : ℕ) → h.clock.boot ≤ boot → IsLasting h files → IsLasting (record h { clock = start_of boot }) files
+pub begins : (h : ServerBase) (files : List StoredFile) (boot : ℕ) → h.clock.boot ≤ boot → IsLasting h files → IsLasting (record h { clock = start_of boot }) files
 begins h files boot le k = record {
   server = record { total = k.server.total; bounded = k.server.bounded; ticks = omega arith; named = k.server.named };
   count = refl;
@@ -30,7 +30,7 @@ begins h files boot le k = record {
 
 -- ---- one file is another
 
-module _ (h : Superblock) (files : List StoredFile) (index : ℕ) (f file : StoredFile) (k : IsLasting h files) (lt : index < length files) (is : f ≡ get_or files index f) where
+module _ (h : ServerBase) (files : List StoredFile) (index : ℕ) (f file : StoredFile) (k : IsLasting h files) (lt : index < length files) (is : f ≡ get_or files index f) where
   there : slice_get files index ≡ Some f
   there = slice_get_read files (length files) index f refl lt is
 
@@ -53,11 +53,11 @@ module _ (h : Superblock) (files : List StoredFile) (index : ℕ) (f file : Stor
       → IsLasting (record h { total = h.total - length (shown f) + length (shown file) }) (set files index file)
   stored_keeps lasts room = record { server = keeps_sizes h files index f file h.clock k.server is lt room k.server.ticks; count = k.count; each = each_after lasts }
 
-  -- the same of a superblock that is given
-  pub counted_keeps : (h' : Superblock) → h' ≡ record h { total = h.total - length (shown f) + length (shown file) } → h'.total ≤ max_total → IsLastingFile h.clock.boot file → IsLasting h' (set files index file)
+  -- the same of a server base that is given
+  pub counted_keeps : (h' : ServerBase) → h' ≡ record h { total = h.total - length (shown f) + length (shown file) } → h'.total ≤ max_total → IsLastingFile h.clock.boot file → IsLasting h' (set files index file)
   counted_keeps h' counted bounded lasts =
-      let total : h'.total ≡ h.total - length (shown f) + length (shown file) = ap (λ (x : Superblock). x.total) counted in
-      subst (λ (x : Superblock). IsLasting x (set files index file)) (sym counted) (stored_keeps lasts (omega (arith, total, bounded)))
+      let total : h'.total ≡ h.total - length (shown f) + length (shown file) = ap (λ (x : ServerBase). x.total) counted in
+      subst (λ (x : ServerBase). IsLasting x (set files index file)) (sym counted) (stored_keeps lasts (omega (arith, total, bounded)))
 
   -- its attributes are others
   same_total : length (shown file) ≡ length (shown f) → h.total - length (shown f) + length (shown file) ≡ h.total
@@ -74,7 +74,7 @@ module _ (h : Superblock) (files : List StoredFile) (index : ℕ) (f file : Stor
 
 -- ---- a file more
 
-pub created_keeps : (h : Superblock) (files : List StoredFile) (name : List ℕ) (owner group mode : ℕ) (tick : Tick) → IsLasting h files → mode < MODE_BITS → tick.boot ≤ h.clock.boot
+pub created_keeps : (h : ServerBase) (files : List StoredFile) (name : List ℕ) (owner group mode : ℕ) (tick : Tick) → IsLasting h files → mode < MODE_BITS → tick.boot ≤ h.clock.boot
     → IsLasting (record h { root = root_after h.root tick; names = h.names ++ name ∷ [] }) (files ++ new_file owner group mode tick ∷ [])
 created_keeps h files name owner group mode tick k less begun =
     let new = new_file owner group mode tick in

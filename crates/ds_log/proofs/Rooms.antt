@@ -12,8 +12,8 @@ use Rattle.cluster_model.specs.declared.tick.Tick.{Tick}
 use Rattle.cluster_model.specs.Content.{Pending, overlay_all}
 use Rattle.cluster_model.specs.File.{StoredFile, shown}
 use Rattle.cluster_model.specs.Server.{ServerState, total_size, max_total}
-use Rattle.ds_procedures.specs.declared.superblock.Superblock.{Superblock}
-use Rattle.ds_procedures.specs.Superblocks.{server_of}
+use Rattle.ds_procedures.specs.declared.server_base.ServerBase.{ServerBase}
+use Rattle.ds_procedures.specs.ServerBases.{server_of}
 use Rattle.ds_procedures.proofs.Places.{size_le_total}
 use Rattle.ds_log.specs.Bodies.{HoldsBytes}
 use Rattle.ds_log.specs.Durable.{holding, ends_in_file, at_fileid, on_stored, with_stored, applied}
@@ -34,7 +34,7 @@ none_of false last e = refl
 leb_moved : (a n m : ℕ) → a ≤ m → leb (a + n) m ≡ leb n (m - a)
 leb_moved a n m le = grind (arith, nat_tests)
 
-module _ (h : Superblock) (f : StoredFile) (ctime : Tick) (ws : List Pending) (size : ℕ) (is : size ≡ length (shown f)) (settled : f.content.pending ≡ []) where
+module _ (h : ServerBase) (f : StoredFile) (ctime : Tick) (ws : List Pending) (size : ℕ) (is : size ≡ length (shown f)) (settled : f.content.pending ≡ []) where
   ended : end_by size ws ≡ cond (list_all ends_in_file ws) (Some (length (overlay_all f.content.stable ws))) None
   ended =
       let whole = end_is (shown f) ws in
@@ -55,12 +55,12 @@ module _ (h : Superblock) (f : StoredFile) (ctime : Tick) (ws : List Pending) (s
       rw (p.0, moved) refl
 
 -- what room is
-pub record HasRoom (h : Superblock) (f : StoredFile) (ctime : Tick) (ws : List Pending) : Type 0 where
+pub record HasRoom (h : ServerBase) (f : StoredFile) (ctime : Tick) (ws : List Pending) : Type 0 where
   pub ends : list_all ends_in_file ws ≡ true
   pub room : h.total - length (shown f) + length (overlay_all f.content.stable ws) ≤ max_total
   pub begun : ctime.boot ≤ h.clock.boot
 
-pub room_of : (h : Superblock) (f : StoredFile) (ctime : Tick) (ws : List Pending) → has_room h f ctime ws ≡ true → HasRoom h f ctime ws
+pub room_of : (h : ServerBase) (f : StoredFile) (ctime : Tick) (ws : List Pending) → has_room h f ctime ws ≡ true → HasRoom h f ctime ws
 room_of h f ctime ws e =
     let total : Bool = leb (h.total - length (shown f) + length (overlay_all f.content.stable ws)) max_total in
     let p = and_parts (list_all ends_in_file ws && total) (leb ctime.boot h.clock.boot) e in
@@ -69,7 +69,7 @@ room_of h f ctime ws e =
 
 -- ---- what they leave
 
-module _ (h : Superblock) (f : StoredFile) (ctime : Tick) (ws : List Pending) (k : IsLastingFile h.clock.boot f) (free : has_room h f ctime ws ≡ true) where
+module _ (h : ServerBase) (f : StoredFile) (ctime : Tick) (ws : List Pending) (k : IsLastingFile h.clock.boot f) (free : has_room h f ctime ws ≡ true) where
   -- the first of the ranges are written
   pub record Fits (file : StoredFile) : Type 0 where
     pub lasts : IsLastingFile h.clock.boot file
@@ -104,7 +104,7 @@ at_some s fileid index f fits change two is there =
     let high : ltb fileid 2 ≡ false = le-ltb _ _ two in
     rw (high, ← is, there) refl
 
-module _ (h : Superblock) (files : List StoredFile) (fileid index : ℕ) (f : StoredFile) (mtime ctime : Tick) (ws : List Pending) (k : IsLasting h files) (two : 2 ≤ fileid) (is : index ≡ fileid - 2) (lt : index < length files) (at : f ≡ get_or files index f) where
+module _ (h : ServerBase) (files : List StoredFile) (fileid index : ℕ) (f : StoredFile) (mtime ctime : Tick) (ws : List Pending) (k : IsLasting h files) (two : 2 ≤ fileid) (is : index ≡ fileid - 2) (lt : index < length files) (at : f ≡ get_or files index f) where
   there : slice_get files index ≡ Some f
   there = slice_get_read files (length files) index f refl lt at
 
@@ -125,7 +125,7 @@ module _ (h : Superblock) (files : List StoredFile) (fileid index : ℕ) (f : St
   pub holds_none : has_room h f ctime ws ≡ false → applied (server_of h files) (HoldsBytes fileid mtime ctime ws) ≡ None
   holds_none full = holds_is ∙ ap (λ (b : Bool). cond b (Some (with_stored (server_of h files) index (holding f mtime ctime ws))) None) full
 
-  pub holds_some : (h' : Superblock) (file : StoredFile) (total : ℕ) → has_room h f ctime ws ≡ true → h' ≡ record h { total = total } → file ≡ holding f mtime ctime ws
+  pub holds_some : (h' : ServerBase) (file : StoredFile) (total : ℕ) → has_room h f ctime ws ≡ true → h' ≡ record h { total = total } → file ≡ holding f mtime ctime ws
       → applied (server_of h files) (HoldsBytes fileid mtime ctime ws) ≡ Some (server_of h' (set files index file))
   holds_some h' file total room head made =
       holds_is ∙ ap (λ (b : Bool). cond b (Some (with_stored (server_of h files) index (holding f mtime ctime ws))) None) room

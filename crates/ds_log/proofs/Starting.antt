@@ -4,8 +4,8 @@ use Rattle.std.specs.Prelude.{slice_get}
 use Rattle.std.proofs.lemmas.Bool.{ne_eqb}
 use Rattle.cluster_model.specs.File.{StoredFile, restarted}
 use Rattle.cluster_model.specs.Server.{files_restarted, restart_of, max_boot}
-use Rattle.ds_procedures.specs.declared.superblock.Superblock.{Superblock}
-use Rattle.ds_procedures.specs.Superblocks.{server_of}
+use Rattle.ds_procedures.specs.declared.server_base.ServerBase.{ServerBase}
+use Rattle.ds_procedures.specs.ServerBases.{server_of}
 use Rattle.ds_log.specs.Durable.{start_of}
 use Rattle.ds_log.specs.Lasting.{IsLastingFile, IsLasting}
 use Rattle.ds_log.specs.Steady.{IsSteadyFile, IsSteady}
@@ -26,7 +26,7 @@ files_again boot fileid [] each = refl
 files_again boot fileid (f ∷ files) each =
     λ i. file_again boot f (each 0 f refl) i ∷ files_again boot (fileid + 1) files (λ index g there. each (suc index) g there) i
 
-module _ (h : Superblock) (files : List StoredFile) (k : IsLasting h files) where
+module _ (h : ServerBase) (files : List StoredFile) (k : IsLasting h files) where
   pub started : h.clock.boot < max_boot → restart_of (server_of h files) [] ≡ Some (server_of (record h { clock = start_of (h.clock.boot + 1) }) files)
   started less =
       let other : eqb h.clock.boot max_boot ≡ false = ne_eqb h.clock.boot max_boot (λ same. omega (arith, same, less)) in

@@ -6,7 +6,7 @@ use Rattle.cluster_model.specs.declared.tick.Tick.{Tick}
 use Rattle.cluster_model.specs.Content.{Pending, overlay_all}
 use Rattle.cluster_model.specs.File.{StoredFile, shown, written}
 use Rattle.cluster_model.specs.Server.{ServerState, max_total}
-use Rattle.ds_procedures.specs.declared.superblock.Superblock.{Superblock}
+use Rattle.ds_procedures.specs.declared.server_base.ServerBase.{ServerBase}
 use Rattle.ds_log.specs.Bodies.{Logged, Creates, HoldsBytes}
 use Rattle.ds_log.specs.Durable.{applied_bytes, ends_in_file}
 
@@ -56,6 +56,6 @@ Holds old tick ranges (Ok x) new = new ≡ held old tick ranges
 Holds old tick ranges (Err e) new = (done rest : List Pending) × (done ++ rest ≡ ranges) × (new ≡ held old tick done)
 
 -- there is room for the ranges in a file of the server, and their tick is of a boot that has begun
-abbrev pub has_room : Superblock → StoredFile → Tick → List Pending → Bool
+abbrev pub has_room : ServerBase → StoredFile → Tick → List Pending → Bool
 has_room h f ctime ranges =
     list_all ends_in_file ranges && nat_le (h.total - length (shown f) + length (overlay_all f.content.stable ranges)) max_total && nat_le ctime.boot h.clock.boot

@@ -3,8 +3,8 @@ use Rattle.std.specs.Prelude.{◌≡◌, ℕ, ◌<◌, ◌≤◌, List, [], leng
 use Rattle.cluster_model.specs.File.{StoredFile, shown}
 use Rattle.cluster_model.specs.Server.{max_file}
 use Rattle.ds_procedures.specs.declared.setattr.TheConstants.{MODE_BITS}
-use Rattle.ds_procedures.specs.declared.superblock.Superblock.{Superblock}
-use Rattle.ds_procedures.specs.Superblocks.{IsServer}
+use Rattle.ds_procedures.specs.declared.server_base.ServerBase.{ServerBase}
+use Rattle.ds_procedures.specs.ServerBases.{IsServer}
 
 -- All of a file lasts: nothing is pending, and its times are the stable ones. Its ctime is of a boot that has begun.
 pub record IsLastingFile (boot : ℕ) (f : StoredFile) : Type 0 where
@@ -15,7 +15,7 @@ pub record IsLastingFile (boot : ℕ) (f : StoredFile) : Type 0 where
   pub size : length (shown f) ≤ max_file
 
 -- So does all of a server, and no tick was given in its boot.
-pub record IsLasting (h : Superblock) (files : List StoredFile) : Type 0 where
+pub record IsLasting (h : ServerBase) (files : List StoredFile) : Type 0 where
   pub server : IsServer h files
   pub count : h.clock.count ≡ 0
   pub each : (index : ℕ) (f : StoredFile) → slice_get files index ≡ Some f → IsLastingFile h.clock.boot f

@@ -2,7 +2,7 @@
 
 ghost use Rattle.std.specs.Prelude.{List, IfOk, OnErr, Some};
 ghost use Rattle.cluster_model.specs.File.{StoredFile};
-ghost use Rattle.ds_procedures.specs.Superblocks.{server_of};
+ghost use Rattle.ds_procedures.specs.ServerBases.{server_of};
 ghost use Rattle.ds_log.specs.Bodies.{Boots};
 ghost use Rattle.ds_log.specs.PlainBodies.{plain_body};
 ghost use Rattle.ds_log.specs.Durable.{applied};
@@ -14,12 +14,12 @@ use crate::creating::{NewFile, create};
 use crate::storing::{hold_bytes, set_attributes};
 use cluster_model::Tick;
 use data_file::DataFile;
-use ds_procedures::Superblock;
+use ds_procedures::ServerBase;
 use ff_xdr::NoMemory;
 use std::alloc::Global;
 
 /// Begins a boot behind the last one, whatever files there are.
-fn begin_boot(head: &mut Superblock, boot: u32) -> bool
+fn begin_boot(head: &mut ServerBase, boot: u32) -> bool
     ensures came { (files : List StoredFile) → CameTo (applied (server_of head.old files) (Boots boot)) (server_of head.old files) result (server_of head.new files) }
     ensures keeps { (files : List StoredFile) → IsLasting head.old files → IsLasting head.new files }
 {
@@ -33,7 +33,7 @@ fn begin_boot(head: &mut Superblock, boot: u32) -> bool
 /// Does what a body says where it fits, and says whether it does.
 pub fn apply_body(
     alloc: Global,
-    head: &mut Superblock,
+    head: &mut ServerBase,
     files: &mut Vec<DataFile>,
     body: &LogBody<'_>,
 ) -> Result<bool, NoMemory>

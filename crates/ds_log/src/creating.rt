@@ -2,7 +2,7 @@
 
 ghost use Rattle.std.specs.Prelude.{◌≡◌, ◌+◌, ◌==◌, ◌&&◌, ◌<◌, ◌≤◌, IfOk, OnErr, OnOk, IsTrue, length, nat_le, nat_lt};
 ghost use Rattle.ds_procedures.specs.declared.setattr.TheConstants.{MODE_BITS};
-ghost use Rattle.ds_procedures.specs.Superblocks.{server_of};
+ghost use Rattle.ds_procedures.specs.ServerBases.{server_of};
 ghost use Rattle.ds_log.specs.Durable.{applied, created, is_good_name};
 ghost use Rattle.ds_log.specs.Lasting.{IsLasting};
 ghost use Rattle.ds_log.specs.Applies.{CameTo};
@@ -11,7 +11,7 @@ ghost use Rattle.ds_log.specs.NewFiles.{creation};
 use crate::storing::FIRST;
 use cluster_model::Tick;
 use data_file::DataFile;
-use ds_procedures::{MAX_NAME, MODE_BITS, Names, Superblock, root_after};
+use ds_procedures::{MAX_NAME, MODE_BITS, Names, ServerBase, root_after};
 use ff_xdr::NoMemory;
 use std::alloc::Global;
 
@@ -42,7 +42,7 @@ fn is_next(count: usize, fileid: u64) -> bool
 }
 
 /// A file may be made behind so many files.
-fn may_create(head: &Superblock, count: usize, new: &NewFile<'_>) -> bool
+fn may_create(head: &ServerBase, count: usize, new: &NewFile<'_>) -> bool
     ensures { result ≡ (is_good_name head.now.names new.now.name.now && new.now.fileid == count + 2 && nat_lt new.now.mode MODE_BITS && nat_le new.now.tick.boot head.now.clock.boot) }
 {
     is_good_name(&head.names, new.name)
@@ -54,7 +54,7 @@ fn may_create(head: &Superblock, count: usize, new: &NewFile<'_>) -> bool
 /// Makes a file that may be made. At an error nothing has changed.
 fn make_file(
     alloc: Global,
-    head: &mut Superblock,
+    head: &mut ServerBase,
     files: &mut Vec<DataFile>,
     new: &NewFile<'_>,
 ) -> Result<(), NoMemory>
@@ -77,7 +77,7 @@ fn make_file(
 /// Makes a file where it may be made. At an error nothing has changed.
 pub fn create(
     alloc: Global,
-    head: &mut Superblock,
+    head: &mut ServerBase,
     files: &mut Vec<DataFile>,
     new: &NewFile<'_>,
 ) -> Result<bool, NoMemory>

@@ -12,7 +12,7 @@ use crate::body::LogBody;
 use cluster_model::{Tick, Times};
 use data_file::DataFile;
 use ds_files::DataServer;
-use ds_procedures::{Names, Superblock};
+use ds_procedures::{Names, ServerBase};
 use ff_xdr::{NoMemory, Wire};
 use std::alloc::Global;
 use std::marker::Model;
@@ -21,13 +21,13 @@ use std::marker::Model;
 #[derive(Drop)]
 pub struct Replayed {
     alloc: Global,
-    head: Superblock,
+    head: ServerBase,
     files: Vec<DataFile>,
 }
 
 impl Model for Replayed {
     ghost use Rattle.cluster_model.specs.Server.{ServerState};
-    ghost use Rattle.ds_procedures.specs.Superblocks.{server_of};
+    ghost use Rattle.ds_procedures.specs.ServerBases.{server_of};
     ghost use Rattle.ds_log.specs.Lasting.{IsLasting};
 
     ghost Value = { ServerState };
@@ -48,7 +48,7 @@ impl Replayed {
             mtime: first,
             ctime: first,
         };
-        let head = Superblock {
+        let head = ServerBase {
             number,
             clock: Tick { boot: 0, count: 0 },
             root,

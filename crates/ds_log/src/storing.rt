@@ -4,7 +4,7 @@ ghost use Rattle.std.specs.Prelude.{◌≡◌, ◌+◌, ◌-◌, ◌≤◌, IfOk
 ghost use Rattle.std.specs.List.{list_all};
 ghost use Rattle.cluster_model.specs.declared.limits.TheConstants.{MAX_TOTAL};
 ghost use Rattle.cluster_model.specs.File.{shown};
-ghost use Rattle.ds_procedures.specs.Superblocks.{server_of};
+ghost use Rattle.ds_procedures.specs.ServerBases.{server_of};
 ghost use Rattle.ds_log.specs.Bodies.{SetsAttributes, HoldsBytes};
 ghost use Rattle.ds_log.specs.PlainRanges.{plain_range};
 ghost use Rattle.ds_log.specs.PlainBodies.{plain_ranges};
@@ -15,7 +15,7 @@ ghost use Rattle.ds_log.specs.Applies.{CameTo, Holds, IsIndexOf, end_with, end_b
 use crate::range::Range;
 use cluster_model::{Changes, MAX_FILE, MAX_TOTAL, NewTime, Tick, Times};
 use data_file::DataFile;
-use ds_procedures::{MODE_BITS, Superblock};
+use ds_procedures::{MODE_BITS, ServerBase};
 use ff_xdr::{Items, NoMemory};
 
 /// The fileid of the first file, since the root has 1.
@@ -33,7 +33,7 @@ fn place_of(files: &[DataFile], fileid: u64) -> Option<usize>
 
 /// Sets attributes of the file with a fileid, where there is one and they may be set.
 pub fn set_attributes(
-    head: &Superblock,
+    head: &ServerBase,
     files: &mut [DataFile],
     fileid: u64,
     owner: u32,
@@ -88,7 +88,7 @@ fn end_by(size: u64, ranges: &Items<'_, Range<'_>>) -> Option<u64>
 }
 
 /// There is room for the ranges in a file of the server, and their tick is of a boot that has begun.
-fn has_room(head: &Superblock, file: &DataFile, ctime: Tick, ranges: &Items<'_, Range<'_>>) -> bool
+fn has_room(head: &ServerBase, file: &DataFile, ctime: Tick, ranges: &Items<'_, Range<'_>>) -> bool
     requires lasting { IsLastingFile head.now.clock.boot file.now }
     requires part { length (shown file.now) ≤ head.now.total }
     requires bounded { head.now.total ≤ MAX_TOTAL }
@@ -121,7 +121,7 @@ fn write_ranges(
 /// Puts the ranges into a file that has room for them, and counts its bytes anew. At an error the first of them may be
 /// there.
 fn put_ranges(
-    head: &mut Superblock,
+    head: &mut ServerBase,
     file: &mut DataFile,
     mtime: Tick,
     ctime: Tick,
@@ -153,7 +153,7 @@ fn put_ranges(
 /// Puts ranges of bytes into the file with a fileid, where there is one and it has room for them. At an error the first of
 /// them may be there.
 pub fn hold_bytes(
-    head: &mut Superblock,
+    head: &mut ServerBase,
     files: &mut [DataFile],
     fileid: u64,
     mtime: Tick,

@@ -13,10 +13,10 @@ use Rattle.cluster_model.specs.Server.{file_at, named, total_size, Caller, may_w
 use Rattle.cluster_model.proofs.Placing.{length-overlay}
 use Rattle.cluster_model.proofs.Files.{shown-written}
 use Rattle.cluster_model.proofs.Permitted.{stops, not_false}
-use Rattle.ds_procedures.specs.declared.superblock.Superblock.{Superblock}
+use Rattle.ds_procedures.specs.declared.server_base.ServerBase.{ServerBase}
 use Rattle.ds_procedures.specs.declared.object.Place.TheVariants as place
 use Rattle.ds_procedures.specs.Objects.{object_by}
-use Rattle.ds_procedures.specs.Superblocks.{IsAt, IsServer, server_of, size_refusal, write_refusal_by_sizes}
+use Rattle.ds_procedures.specs.ServerBases.{IsAt, IsServer, server_of, size_refusal, write_refusal_by_sizes}
 use Rattle.ds_procedures.specs.CodePlans.{HasRoom}
 
 -- what a file is in the code and in the rule
@@ -53,7 +53,7 @@ size_le_total files index f e =
     omega (arith, le, same)
 
 -- the refusal for want of room is that of the sizes
-room_is : (h : Superblock) (files : List StoredFile) (index : ℕ) (f : StoredFile) (at : ℕ) (bytes : List ℕ) → IsServer h files → slice_get files index ≡ Some f
+room_is : (h : ServerBase) (files : List StoredFile) (index : ℕ) (f : StoredFile) (at : ℕ) (bytes : List ℕ) → IsServer h files → slice_get files index ≡ Some f
     → size_refusal h.total h.clock (length (shown f)) at (length bytes) ≡ room_refusal (server_of h files) index f at bytes
 room_is h files index f at [] k e = refl
 room_is h files index f at (b ∷ bytes) k e =
@@ -65,12 +65,12 @@ room_is h files index f at (b ∷ bytes) k e =
     rw (nonempty, total) refl
 
 -- the refusals of a write are those of the sizes
-pub refusal_is : (h : Superblock) (files : List StoredFile) (index : ℕ) (f : StoredFile) (caller : Caller) (agree : Bool) (at : ℕ) (bytes : List ℕ) → IsServer h files → slice_get files index ≡ Some f
+pub refusal_is : (h : ServerBase) (files : List StoredFile) (index : ℕ) (f : StoredFile) (caller : Caller) (agree : Bool) (at : ℕ) (bytes : List ℕ) → IsServer h files → slice_get files index ≡ Some f
     → write_refusal_by_sizes h.total h.clock f caller agree at bytes ≡ write_refusal (server_of h files) index f caller agree at bytes
 refusal_is h files index f caller agree at bytes k e = rw (room_is h files index f at bytes k e) refl
 
 -- there is room for a write that is not refused, and its arguments agree
-room_by : (h : Superblock) (size at len : ℕ) → h.clock.count ≤ max_ticks → size_refusal h.total h.clock size at len ≡ None → HasRoom h size at len
+room_by : (h : ServerBase) (size at len : ℕ) → h.clock.count ≤ max_ticks → size_refusal h.total h.clock size at len ≡ None → HasRoom h size at len
 room_by h size at zero le e = record { short = λ lt. absurd (omega arith); room = λ lt. absurd (omega arith); tick = λ lt. absurd (omega arith) }
 room_by h size at (suc n) le e =
     let nonempty : eqb (suc n) 0 ≡ false = grind (arith, nat_tests) in
@@ -80,11 +80,11 @@ room_by h size at (suc n) le e =
     let other : h.clock.count ≢ max_ticks = λ same. false≢true (sym c.0 ∙ eq-eqb _ _ same) in
     record { short = λ lt. ltb-false _ _ a.0; room = λ lt. ltb-false _ _ b.0; tick = λ lt. omega (arith, le, other) }
 
-pub record IsGranted (h : Superblock) (size at len : ℕ) (agree : Bool) : Type 0 where
+pub record IsGranted (h : ServerBase) (size at len : ℕ) (agree : Bool) : Type 0 where
   pub agrees : agree ≡ true
   pub room : HasRoom h size at len
 
-pub granted : (h : Superblock) (f : StoredFile) (caller : Caller) (agree : Bool) (at : ℕ) (bytes : List ℕ) → h.clock.count ≤ max_ticks → write_refusal_by_sizes h.total h.clock f caller agree at bytes ≡ None → IsGranted h (length (shown f)) at (length bytes) agree
+pub granted : (h : ServerBase) (f : StoredFile) (caller : Caller) (agree : Bool) (at : ℕ) (bytes : List ℕ) → h.clock.count ≤ max_ticks → write_refusal_by_sizes h.total h.clock f caller agree at bytes ≡ None → IsGranted h (length (shown f)) at (length bytes) agree
 granted h f caller agree at bytes le e =
     let a = stops (not (may_write f caller)) Acces _ e in
     let b = stops (not agree) Inval _ a.1 in

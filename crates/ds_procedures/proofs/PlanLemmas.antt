@@ -10,12 +10,12 @@ use Rattle.cluster_model.specs.declared.tick.Tick.{Tick}
 use Rattle.cluster_model.specs.declared.change.Changes.{Changes}
 use Rattle.cluster_model.specs.File.{StoredFile, Writes, shown}
 use Rattle.cluster_model.specs.Server.{ServerState, Caller, Refusal, write_refusal, set_refusal, OnFile}
-use Rattle.ds_procedures.specs.declared.superblock.Superblock.{Superblock}
+use Rattle.ds_procedures.specs.declared.server_base.ServerBase.{ServerBase}
 use Rattle.ds_procedures.specs.Objects.{stat_of, file_attributes, wcc_same}
 use Rattle.ds_procedures.specs.Write.{is_synced, write_done, write_unless}
 use Rattle.ds_procedures.specs.Setattr.{set_done, set_unless}
 use Rattle.ds_procedures.specs.Plans.{reply_alone}
-use Rattle.ds_procedures.specs.Superblocks.{IsServer, server_of, write_refusal_by_sizes}
+use Rattle.ds_procedures.specs.ServerBases.{IsServer, server_of, write_refusal_by_sizes}
 use Rattle.ds_procedures.specs.CodePlans.{HasRoom, IsReady}
 use Rattle.ds_procedures.proofs.Places.{refusal_is, granted, same_file}
 
@@ -38,7 +38,7 @@ pub none_by : (r : Option Refusal) → None ≡ option_map stat_of r → r ≡ N
 none_by None e = refl
 none_by (Some refusal) e = absurd (cc)
 
-module _ (h : Superblock) (files : List StoredFile) (index : ℕ) (x : StoredFile) (caller : Caller) (k : IsServer h files) (is : x ≡ get_or files index x) (lt : index < length files) where
+module _ (h : ServerBase) (files : List StoredFile) (index : ℕ) (x : StoredFile) (caller : Caller) (k : IsServer h files) (is : x ≡ get_or files index x) (lt : index < length files) where
   there_is : slice_get files index ≡ Some x
   there_is = slice_get_read files (length files) index x refl lt is
 

@@ -10,5 +10,5 @@ pub mod Fsinfo
 pub mod Commit
 pub mod Steps
 pub mod Answer
-pub mod Superblocks
+pub mod ServerBases
 pub mod CodePlans

@@ -4,7 +4,7 @@ ghost use Rattle.std.specs.Prelude.{◌≡◌, IfSome};
 ghost use Rattle.std.specs.Option.{option_map};
 ghost use Rattle.cluster_model.specs.Server.{allows, is_member, may_read, may_write, tick_refusal};
 ghost use Rattle.ds_procedures.specs.Objects.{caller, stat_of};
-ghost use Rattle.ds_procedures.specs.Superblocks.{Refuses};
+ghost use Rattle.ds_procedures.specs.ServerBases.{Refuses};
 
 use cluster_model::{MAX_TICKS, Tick};
 use data_file::DataFile;

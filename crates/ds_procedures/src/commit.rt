@@ -4,7 +4,7 @@ ghost use Rattle.std.specs.Prelude.{◌≡◌, ◌<◌, length};
 ghost use Rattle.cluster_model.specs.Server.{commit_refusal};
 ghost use Rattle.ds_procedures.specs.Objects.{object_of, caller};
 ghost use Rattle.ds_procedures.specs.Commit.{commit_unless, commit_plan};
-ghost use Rattle.ds_procedures.specs.Superblocks.{server_of};
+ghost use Rattle.ds_procedures.specs.ServerBases.{server_of};
 ghost use Rattle.ds_procedures.specs.CodePlans.{plain_plan, plain_effect, IsPlanOn, IsReady};
 
 use crate::access::may_write;
@@ -13,8 +13,8 @@ use crate::attributes::{file_attributes, root_attributes, wcc_between, wcc_same}
 use crate::object::Place;
 use crate::objects::place_of;
 use crate::plan::{Effect, Plan, reply_alone};
+use crate::server_base::ServerBase;
 use crate::stored::StoredReply;
-use crate::superblock::Superblock;
 use data_file::DataFile;
 use nfs3_wire::{CommitArgs, CommitOk, CommitReply, Stat3};
 use rpc_record::AuthSys;
@@ -22,7 +22,7 @@ use rpc_record::AuthSys;
 /// The plan of a COMMIT on a file. What is shown stays, so the attributes are the same before and
 /// after.
 fn on_file<'s, 'c>(
-    head: &Superblock,
+    head: &ServerBase,
     files: &[DataFile],
     index: usize,
     cred: &AuthSys<'_>,
@@ -49,7 +49,7 @@ fn on_file<'s, 'c>(
 
 /// The plan of a COMMIT.
 pub fn commit_plan<'s, 'c>(
-    head: &Superblock,
+    head: &ServerBase,
     files: &[DataFile],
     args: &CommitArgs<'_>,
     cred: &AuthSys<'_>,

@@ -4,7 +4,7 @@ ghost use Rattle.std.specs.Prelude.{◌≡◌, ◌+◌, ◌-◌, ◌<◌, ◌^�
 ghost use Rattle.cluster_model.specs.Server.{index_of, root_after, max_ticks};
 ghost use Rattle.ds_procedures.specs.Objects.{object_of, caller};
 ghost use Rattle.ds_procedures.specs.Create.{has_size, made_by, named_by, owner_of, group_of, file_mode_of, create_done, create_in, create_plan};
-ghost use Rattle.ds_procedures.specs.Superblocks.{IsServer, server_of};
+ghost use Rattle.ds_procedures.specs.ServerBases.{IsServer, server_of};
 ghost use Rattle.ds_procedures.specs.CodePlans.{plain_plan, plain_effect, IsReady, create_case_of, plain_create_case, CreateCaseFits};
 
 use crate::access::tick_refusal;
@@ -14,9 +14,9 @@ use crate::lookup::MAX_NAME;
 use crate::object::Place;
 use crate::objects::{attributes_at, attributes_of_file, handle_of, place_of};
 use crate::plan::{Effect, Plan, reply_alone};
+use crate::server_base::ServerBase;
 use crate::setattr::mode_of;
 use crate::stored::StoredReply;
-use crate::superblock::Superblock;
 use cluster_model::{FILE_MODE, Tick, Times};
 use data_file::DataFile;
 use nfs3_wire::{CreateArgs, CreateHow, Sattr3, Stat3};
@@ -43,7 +43,7 @@ fn has_size(size: Option<u64>) -> bool
 }
 
 /// The file that has the name, or what is to be made.
-fn made_by(head: &Superblock, name: &[u8], attributes: Sattr3, found: Option<usize>) -> CreateCase
+fn made_by(head: &ServerBase, name: &[u8], attributes: Sattr3, found: Option<usize>) -> CreateCase
     requires found { found ≡ index_of head.now.names name.now }
     requires index { IfSome found (λ index. index + 2 < 2 ^ 64) }
     requires ticks { head.now.clock.count ≤ max_ticks }
@@ -61,7 +61,7 @@ fn made_by(head: &Superblock, name: &[u8], attributes: Sattr3, found: Option<usi
 
 /// What comes of a CREATE that is UNCHECKED or GUARDED.
 fn named_by(
-    head: &Superblock,
+    head: &ServerBase,
     name: &[u8],
     guarded: bool,
     attributes: Sattr3,
@@ -83,7 +83,7 @@ fn named_by(
 }
 
 /// What comes of a CREATE in the root, the first reason in the order of the refusals.
-fn case_in_root(head: &Superblock, args: &CreateArgs<'_>, cred: &AuthSys<'_>) -> CreateCase
+fn case_in_root(head: &ServerBase, args: &CreateArgs<'_>, cred: &AuthSys<'_>) -> CreateCase
     requires names { length head.now.names + 2 < 2 ^ 64 }
     requires ticks { head.now.clock.count ≤ max_ticks }
     ensures exact { plain_create_case result ≡ create_case_of head.now args.now cred.now }
@@ -117,7 +117,7 @@ pub fn root_after(root: Times, tick: Tick) -> Times
 /// The plan of a CREATE that makes a file.
 fn done<'s, 'c>(
     alloc: Global,
-    head: &Superblock,
+    head: &ServerBase,
     files: &[DataFile],
     name: &'c [u8],
     owner: u32,
@@ -153,7 +153,7 @@ fn done<'s, 'c>(
 /// The plan of a CREATE in the root.
 fn in_root<'s, 'c>(
     alloc: Global,
-    head: &Superblock,
+    head: &ServerBase,
     files: &[DataFile],
     args: &CreateArgs<'c>,
     cred: &AuthSys<'_>,
@@ -185,7 +185,7 @@ fn in_root<'s, 'c>(
 /// The plan of a CREATE.
 pub fn create_plan<'s, 'c>(
     alloc: Global,
-    head: &Superblock,
+    head: &ServerBase,
     files: &[DataFile],
     args: &CreateArgs<'c>,
     cred: &AuthSys<'_>,

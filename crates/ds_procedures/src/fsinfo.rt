@@ -6,12 +6,12 @@ ghost use Rattle.nfs3_wire.specs.Replies.{nfs3_results, reply_value};
 ghost use Rattle.ds_procedures.specs.Objects.{object_of};
 ghost use Rattle.ds_procedures.specs.Fsinfo.{server_info, fsinfo_reply};
 ghost use Rattle.ds_procedures.specs.Answer.{reply_with};
-ghost use Rattle.ds_procedures.specs.Superblocks.{server_of};
+ghost use Rattle.ds_procedures.specs.ServerBases.{server_of};
 
 use crate::object::Place;
 use crate::objects::{attributes_of, place_of};
+use crate::server_base::ServerBase;
 use crate::stored::StoredReply;
-use crate::superblock::Superblock;
 use cluster_model::MAX_FILE;
 use data_file::DataFile;
 use nfs3_wire::{Fattr3, FsInfoArgs, FsInfoOk, FsInfoReply, MAX_DATA, Time3};
@@ -48,7 +48,7 @@ fn server_info(attributes: Option<Fattr3>) -> FsInfoOk
 }
 
 /// What an FSINFO is answered.
-pub fn fsinfo_reply(head: &Superblock, files: &[DataFile], args: &FsInfoArgs<'_>) -> StoredReply
+pub fn fsinfo_reply(head: &ServerBase, files: &[DataFile], args: &FsInfoArgs<'_>) -> StoredReply
     ensures reply { reply_with result [] ≡ fsinfo_reply (server_of head.now files.now) (object_of files.now args.now.root.now) }
     ensures fits { Fits nfs3_results (reply_value (reply_with result [])) }
 {

@@ -16,9 +16,9 @@ mod objects;
 mod plan;
 mod procedures;
 mod read;
+mod server_base;
 mod setattr;
 mod stored;
-mod superblock;
 mod write;
 
 pub use answer::{Answer3, Response};
@@ -27,6 +27,6 @@ pub use lookup::MAX_NAME;
 pub use names::Names;
 pub use plan::{Effect, Plan};
 pub use procedures::plan_of;
+pub use server_base::ServerBase;
 pub use setattr::MODE_BITS;
-pub use superblock::Superblock;
 pub use write::size_refusal;

@@ -6,13 +6,13 @@ ghost use Rattle.nfs3_wire.specs.Replies.{nfs3_results, reply_value};
 ghost use Rattle.ds_procedures.specs.Objects.{object_of, Root};
 ghost use Rattle.ds_procedures.specs.Lookup.{lookup_reply};
 ghost use Rattle.ds_procedures.specs.Answer.{reply_with};
-ghost use Rattle.ds_procedures.specs.Superblocks.{IsServer, server_of};
+ghost use Rattle.ds_procedures.specs.ServerBases.{IsServer, server_of};
 
 use crate::attributes::root_attributes;
 use crate::object::Place;
 use crate::objects::{attributes_at, attributes_of_file, handle_of, place_of};
+use crate::server_base::ServerBase;
 use crate::stored::StoredReply;
-use crate::superblock::Superblock;
 use data_file::DataFile;
 use nfs3_wire::{LookupArgs, Stat3};
 
@@ -20,7 +20,7 @@ use nfs3_wire::{LookupArgs, Stat3};
 pub const MAX_NAME: usize = 255;
 
 /// What a LOOKUP in the root is answered.
-fn root_reply(head: &Superblock, files: &[DataFile], name: &[u8]) -> StoredReply
+fn root_reply(head: &ServerBase, files: &[DataFile], name: &[u8]) -> StoredReply
     requires { IsServer head.now files.now }
     ensures reply { reply_with result [] ≡ lookup_reply (server_of head.now files.now) Root name.now }
     ensures fits { Fits nfs3_results (reply_value (reply_with result [])) }
@@ -46,7 +46,7 @@ fn root_reply(head: &Superblock, files: &[DataFile], name: &[u8]) -> StoredReply
 }
 
 /// What a LOOKUP is answered.
-pub fn lookup_reply(head: &Superblock, files: &[DataFile], args: &LookupArgs<'_>) -> StoredReply
+pub fn lookup_reply(head: &ServerBase, files: &[DataFile], args: &LookupArgs<'_>) -> StoredReply
     requires { IsServer head.now files.now }
     ensures reply { reply_with result [] ≡ lookup_reply (server_of head.now files.now) (object_of files.now args.now.directory.now) args.now.name.now }
     ensures fits { Fits nfs3_results (reply_value (reply_with result [])) }

@@ -3,11 +3,11 @@
 ghost use Rattle.std.specs.Prelude.{◌≡◌, ◌<◌, ◌+◌, ◌^◌, Some, length};
 ghost use Rattle.cluster_model.specs.Server.{named};
 ghost use Rattle.ds_procedures.specs.Objects.{object_by, object_of, attributes_at, handle_of};
-ghost use Rattle.ds_procedures.specs.Superblocks.{IsAt, IsWithin, MissingRefuses, AreOf, AreOfFile, AttributesFit};
+ghost use Rattle.ds_procedures.specs.ServerBases.{IsAt, IsWithin, MissingRefuses, AreOf, AreOfFile, AttributesFit};
 
 use crate::attributes::{file_attributes, root_attributes};
 use crate::object::Place;
-use crate::superblock::Superblock;
+use crate::server_base::ServerBase;
 use data_file::DataFile;
 use nfs3_wire::{Fattr3, Stat3};
 
@@ -74,7 +74,7 @@ pub fn attributes_at(files: &[DataFile], index: usize) -> Option<Fattr3>
 }
 
 /// The attributes of the object at a place: none where it names nothing.
-pub fn attributes_of(head: &Superblock, files: &[DataFile], place: Place) -> Option<Fattr3>
+pub fn attributes_of(head: &ServerBase, files: &[DataFile], place: Place) -> Option<Fattr3>
     requires { IsWithin files.now place }
     ensures are { AreOf head.now files.now place result }
     ensures fits { AttributesFit result }

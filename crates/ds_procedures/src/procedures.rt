@@ -4,7 +4,7 @@ ghost use Rattle.std.specs.Prelude.{◌≡◌};
 ghost use Rattle.nfs3_wire.specs.Calls.{plain_call};
 ghost use Rattle.ds_procedures.specs.Objects.{caller};
 ghost use Rattle.ds_procedures.specs.Steps.{plan_of};
-ghost use Rattle.ds_procedures.specs.Superblocks.{IsServer, server_of};
+ghost use Rattle.ds_procedures.specs.ServerBases.{IsServer, server_of};
 ghost use Rattle.ds_procedures.specs.CodePlans.{plain_plan, plain_effect, IsReady};
 
 use crate::commit::commit_plan;
@@ -14,9 +14,9 @@ use crate::getattr::getattr_reply;
 use crate::lookup::lookup_reply;
 use crate::plan::{Plan, reply_alone};
 use crate::read::read_plan;
+use crate::server_base::ServerBase;
 use crate::setattr::set_plan;
 use crate::stored::StoredReply;
-use crate::superblock::Superblock;
 use crate::write::write_plan;
 use data_file::DataFile;
 use nfs3_wire::Call3;
@@ -26,7 +26,7 @@ use std::alloc::Global;
 /// What a call by a credential comes to. Takes no memory.
 pub fn plan_of<'s, 'c>(
     alloc: Global,
-    head: &Superblock,
+    head: &ServerBase,
     files: &'s [DataFile],
     call: &Call3<'c>,
     cred: &AuthSys<'_>,

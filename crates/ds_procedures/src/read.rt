@@ -5,7 +5,7 @@ ghost use Rattle.cluster_model.specs.Server.{read_refusal, NoEffect};
 ghost use Rattle.ds_procedures.specs.Objects.{object_of, caller};
 ghost use Rattle.ds_procedures.specs.Read.{read_done, read_unless, read_reply};
 ghost use Rattle.ds_procedures.specs.Plans.{reply_alone};
-ghost use Rattle.ds_procedures.specs.Superblocks.{server_of};
+ghost use Rattle.ds_procedures.specs.ServerBases.{server_of};
 ghost use Rattle.ds_procedures.specs.CodePlans.{plain_plan, plain_effect, IsPlanOn};
 
 use crate::access::may_read;
@@ -14,8 +14,8 @@ use crate::attributes::{file_attributes, root_attributes};
 use crate::object::Place;
 use crate::objects::place_of;
 use crate::plan::{Effect, Plan, reply_alone};
+use crate::server_base::ServerBase;
 use crate::stored::StoredReply;
-use crate::superblock::Superblock;
 use data_file::DataFile;
 use nfs3_wire::{MAX_DATA, ReadArgs, Stat3};
 use rpc_record::AuthSys;
@@ -63,7 +63,7 @@ fn on_file<'s, 'c>(
 
 /// The plan of a READ.
 pub fn read_plan<'s, 'c>(
-    head: &Superblock,
+    head: &ServerBase,
     files: &'s [DataFile],
     args: &ReadArgs<'_>,
     cred: &AuthSys<'_>,

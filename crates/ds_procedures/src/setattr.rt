@@ -6,7 +6,7 @@ ghost use Rattle.cluster_model.specs.File.{set, time_set};
 ghost use Rattle.cluster_model.specs.Server.{differs, set_refusal};
 ghost use Rattle.ds_procedures.specs.Objects.{object_of, caller, file_attributes, time_of, stat_of};
 ghost use Rattle.ds_procedures.specs.Setattr.{tick_of, new_time, mode_of, changes_of, set_done, set_unless, set_plan};
-ghost use Rattle.ds_procedures.specs.Superblocks.{IsServer, server_of, Refuses};
+ghost use Rattle.ds_procedures.specs.ServerBases.{IsServer, server_of, Refuses};
 ghost use Rattle.ds_procedures.specs.CodePlans.{plain_plan, plain_effect, IsPlanOn, IsReady};
 
 use crate::access::tick_refusal;
@@ -15,8 +15,8 @@ use crate::attributes::{file_attributes, root_attributes, time_of, wcc_between, 
 use crate::object::Place;
 use crate::objects::place_of;
 use crate::plan::{Effect, Plan, reply_alone};
+use crate::server_base::ServerBase;
 use crate::stored::StoredReply;
-use crate::superblock::Superblock;
 use cluster_model::{Changes, NewTime, Tick};
 use data_file::DataFile;
 use nfs3_wire::{Fattr3, Sattr3, SetAttrArgs, SetAttrReply, SetTime, Stat3, Time3};
@@ -81,7 +81,7 @@ fn differs(guard: Option<Time3>, ctime: Tick) -> bool
 
 /// Why a SETATTR of a file is refused, the first reason in the order of the refusals.
 fn refusal(
-    head: &Superblock,
+    head: &ServerBase,
     file: &DataFile,
     args: &SetAttrArgs<'_>,
     cred: &AuthSys<'_>,
@@ -130,7 +130,7 @@ fn attributes_set(fileid: u64, file: &DataFile, tick: Tick, changes: &Changes) -
 }
 
 /// The plan of a SETATTR that is done.
-fn done<'s, 'c>(head: &Superblock, index: usize, file: &DataFile, changes: Changes) -> Plan<'s, 'c>
+fn done<'s, 'c>(head: &ServerBase, index: usize, file: &DataFile, changes: Changes) -> Plan<'s, 'c>
     requires ticks { head.now.clock.count < 2 ^ 32 - 1 }
     requires index { index + 2 < 2 ^ 64 }
     ensures { plain_plan result ≡ set_done (server_of head.now []) index file.now changes }
@@ -147,7 +147,7 @@ fn done<'s, 'c>(head: &Superblock, index: usize, file: &DataFile, changes: Chang
 
 /// The plan of a SETATTR on a file.
 fn on_file<'s, 'c>(
-    head: &Superblock,
+    head: &ServerBase,
     files: &[DataFile],
     index: usize,
     args: &SetAttrArgs<'_>,
@@ -168,7 +168,7 @@ fn on_file<'s, 'c>(
 
 /// The plan of a SETATTR.
 pub fn set_plan<'s, 'c>(
-    head: &Superblock,
+    head: &ServerBase,
     files: &[DataFile],
     args: &SetAttrArgs<'_>,
     cred: &AuthSys<'_>,

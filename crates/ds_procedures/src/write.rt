@@ -6,7 +6,7 @@ ghost use Rattle.cluster_model.specs.File.{shown, written, Writes};
 ghost use Rattle.cluster_model.specs.Server.{write_refusal, max_total, max_file};
 ghost use Rattle.ds_procedures.specs.Objects.{object_of, caller, file_attributes, stat_of};
 ghost use Rattle.ds_procedures.specs.Write.{is_synced, stability_of, write_done, write_unless, write_plan};
-ghost use Rattle.ds_procedures.specs.Superblocks.{IsServer, server_of, size_refusal, write_refusal_by_sizes, Refuses};
+ghost use Rattle.ds_procedures.specs.ServerBases.{IsServer, server_of, size_refusal, write_refusal_by_sizes, Refuses};
 ghost use Rattle.ds_procedures.specs.CodePlans.{plain_plan, plain_effect, IsPlanOn, IsReady};
 ghost use Rattle.std.specs.Prelude.{[]};
 
@@ -16,8 +16,8 @@ use crate::attributes::{file_attributes, root_attributes, time_of, wcc_between, 
 use crate::object::Place;
 use crate::objects::place_of;
 use crate::plan::{Effect, Plan, reply_alone};
+use crate::server_base::ServerBase;
 use crate::stored::StoredReply;
-use crate::superblock::Superblock;
 use cluster_model::{MAX_FILE, MAX_TOTAL, Tick};
 use data_file::DataFile;
 use nfs3_wire::{Fattr3, StableHow, Stat3, WriteArgs, WriteOk, WriteReply};
@@ -67,7 +67,7 @@ pub fn size_refusal(total: u64, clock: Tick, size: u64, at: u64, length: u64) ->
 
 /// Why a WRITE of a file is refused, the first reason in the order of the refusals.
 fn refusal(
-    head: &Superblock,
+    head: &ServerBase,
     file: &DataFile,
     args: &WriteArgs<'_>,
     cred: &AuthSys<'_>,
@@ -123,7 +123,7 @@ fn attributes_after(
 
 /// The plan of a WRITE that is done.
 fn done<'s, 'c>(
-    head: &Superblock,
+    head: &ServerBase,
     index: usize,
     file: &DataFile,
     args: &WriteArgs<'c>,
@@ -158,7 +158,7 @@ fn done<'s, 'c>(
 
 /// The plan of a WRITE on a file.
 fn on_file<'s, 'c>(
-    head: &Superblock,
+    head: &ServerBase,
     files: &[DataFile],
     index: usize,
     args: &WriteArgs<'c>,
@@ -179,7 +179,7 @@ fn on_file<'s, 'c>(
 
 /// The plan of a WRITE.
 pub fn write_plan<'s, 'c>(
-    head: &Superblock,
+    head: &ServerBase,
     files: &[DataFile],
     args: &WriteArgs<'c>,
     cred: &AuthSys<'_>,

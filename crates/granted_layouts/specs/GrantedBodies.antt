@@ -16,7 +16,7 @@ use Rattle.ff_layout.specs.Layout.{ff_layout4}
 use Rattle.device_addr.specs.Device.{ff_device_addr4}
 use Rattle.device_addr.specs.Universal.{AddressValue, address_text}
 use Rattle.cluster_model.specs.declared.ids.Mirror.{Mirror}
-use Rattle.mds_operations.specs.declared.layout_get.TheConstants.{FLEX_FILES, IOMODE_RW}
+use Rattle.mds_refusals.specs.declared.layout_get.TheConstants.{FLEX_FILES, IOMODE_RW}
 
 -- ---- layouts (RFC 8435, section 5.1)
 

@@ -9,7 +9,7 @@ ghost use Rattle.granted_layouts.specs.GrantedBodies.{device_info_length, device
 use device_addr::NetAddr;
 use ff_xdr::Items;
 use itoa::Buffer;
-use mds_operations::FLEX_FILES;
+use mds_refusals::FLEX_FILES;
 use nfs4_file_ops::{GetDeviceInfoOk, GetDeviceInfoRes};
 use nfs4_types::{Bitmap, OpaqueBody};
 

@@ -11,7 +11,7 @@ ghost use Rattle.granted_layouts.specs.GrantedBodies.{layout_length, layout_resu
 use cluster_model::Cred;
 use ff_xdr::{Array, Items};
 use itoa::Buffer;
-use mds_operations::{FLEX_FILES, IOMODE_RW};
+use mds_refusals::{FLEX_FILES, IOMODE_RW};
 use nfs4_file_ops::{Layout4, LayoutGetOk, LayoutGetRes};
 use nfs4_types::{OpaqueBody, Stateid};
 

@@ -13,7 +13,7 @@ ghost use Rattle.compound_run.specs.CompoundRuns.{HasMadeStep};
 use crate::awaited::is_awaited;
 use crate::reads::resume_read;
 use crate::writes::{resume_write, see_ctime};
-use awaited_calls::{AwaitedCall, SentCall};
+use awaited_calls::{AwaitedCall, SentTo};
 use cluster_model::{DsCall, DsReply, NodeId, Outbox, SERVERFAULT};
 use ds_calls::ds_reply_of;
 use ff_xdr::NoMemory;
@@ -156,7 +156,7 @@ pub fn take_answer(
         return Ok(());
     }
     match sent {
-        SentCall::ToServer {
+        SentTo::ToServer {
             server,
             call: sent,
             ..
@@ -170,6 +170,6 @@ pub fn take_answer(
             };
             server_answered(state, &answer, caller, now, out)
         }
-        SentCall::ToClient { .. } => client_answered(state, reply.xid, &reply.body, out),
+        SentTo::ToClient { .. } => client_answered(state, reply.xid, &reply.body, out),
     }
 }

@@ -9,9 +9,9 @@ use Rattle.cluster_model.specs.declared.phase.Phase.{Phase}
 use Rattle.cluster_model.proofs.Elements.{slice_get-set_same}
 use Rattle.file_rule.specs.FilePhases.{AsksLayout}
 use Rattle.nfs4_types.specs.declared.status.Stat4.{Stat4}
-use Rattle.mds_operations.specs.declared.layout_get.LayoutGetFound.{LayoutGetFound}
-use Rattle.mds_operations.specs.Orders.{refusal}
-use Rattle.mds_operations.specs.LayoutGets.{layout_get_order}
+use Rattle.mds_refusals.specs.declared.layout_get.LayoutGetFound.{LayoutGetFound}
+use Rattle.mds_refusals.specs.Orders.{refusal}
+use Rattle.mds_refusals.specs.LayoutGets.{layout_get_order}
 use Rattle.mds_rule.specs.MdsStates.{CompoundRun, ServedFile, MdsValue, MdsStep, sends_none, confirmed_node, served, with_served}
 use Rattle.mds_rule.specs.OpSteps.{OpStep, refused_or}
 use Rattle.mds_rule.specs.ServedFiles.{takes_input}

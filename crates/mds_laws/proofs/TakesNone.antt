@@ -11,9 +11,9 @@ use Rattle.layout_state.specs.declared.grant.GrantFault.{GrantFault}
 use Rattle.layout_state.specs.declared.grant.GrantFault.TheVariants.{Later, Recalling, Spent}
 use Rattle.layout_state.specs.Grants.{grant_fault_by}
 use Rattle.nfs4_types.specs.declared.status.Stat4.{Stat4}
-use Rattle.mds_operations.specs.Orders.{Order, refusal}
-use Rattle.mds_operations.specs.LayoutGets.{is_later, is_recalled, is_spent, layout_get_order}
-use Rattle.mds_operations.specs.declared.layout_get.LayoutGetFound.{LayoutGetFound}
+use Rattle.mds_refusals.specs.Orders.{Order, refusal}
+use Rattle.mds_refusals.specs.LayoutGets.{is_later, is_recalled, is_spent, layout_get_order}
+use Rattle.mds_refusals.specs.declared.layout_get.LayoutGetFound.{LayoutGetFound}
 use Rattle.mds_rule.specs.MdsStates.{CompoundRun, ServedFile, MdsValue, confirmed_node, served}
 use Rattle.mds_rule.specs.OpSteps.{OpStep, Goes, Ends, Waits, refused_or}
 use Rattle.mds_rule.specs.FileOps.{client_of, current_file, uids_left}

@@ -19,7 +19,7 @@ use compound_run::{OpEnd, Run};
 use device_addr::NetAddr;
 use ff_xdr::NoMemory;
 use granted_layouts::{device_body, device_info_result, device_info_size};
-use mds_operations::{DeviceInfo, try_get_device_info};
+use mds_refusals::{DeviceInfo, try_get_device_info};
 use mds_state::State;
 use nfs4_compound::OpRes;
 use nfs4_compound::nfs4_file_ops::{GetDeviceInfoArgs, GetDeviceInfoRes};

@@ -18,7 +18,7 @@ use compound_run::{OpEnd, Run};
 use ff_xdr::NoMemory;
 use layout_state::GrantFault;
 use mds_names::{current_file, named_in};
-use mds_operations::{LayoutGetFound, try_layout_get};
+use mds_refusals::{LayoutGetFound, try_layout_get};
 use mds_state::{State, ask_back};
 use nfs4_compound::OpRes;
 use nfs4_compound::nfs4_file_ops::{LayoutGetArgs, LayoutGetRes};

@@ -17,7 +17,7 @@ use ff_xdr::{Items, NoMemory, Wire};
 use layout_report::report_of;
 use mds_file::FileInput;
 use mds_names::{client_of, named_in};
-use mds_operations::{FileReturn, try_layout_return, try_layout_return_all};
+use mds_refusals::{FileReturn, try_layout_return, try_layout_return_all};
 use mds_state::{State, end_periods, take_input};
 use nfs4_compound::OpRes;
 use nfs4_compound::nfs4_file_ops::{LayoutReturn, LayoutReturnArgs, LayoutReturnFile};

@@ -8,11 +8,11 @@ use Rattle.nfs4_types.specs.declared.status.Stat4.{Stat4}
 use Rattle.open_state.specs.declared.open.Open.{Open}
 use Rattle.open_state.specs.declared.open.OpenFault.{OpenFault}
 use Rattle.open_state.specs.Opens.{OpensValue, Opens, Gives, open_of, open_fault, given, opened, stateid_of}
-use Rattle.mds_operations.specs.declared.object.Object.TheVariants.{File}
-use Rattle.mds_operations.specs.declared.open.Creation.{Creation}
-use Rattle.mds_operations.specs.declared.open.OpenStep.TheVariants as step
-use Rattle.mds_operations.specs.Orders.{refusal}
-use Rattle.mds_operations.specs.Opens.{open_order, open_step}
+use Rattle.mds_refusals.specs.declared.object.Object.TheVariants.{File}
+use Rattle.mds_refusals.specs.declared.open.Creation.{Creation}
+use Rattle.mds_refusals.specs.declared.open.OpenStep.TheVariants as step
+use Rattle.mds_refusals.specs.Orders.{refusal}
+use Rattle.mds_refusals.specs.Opens.{open_order, open_step}
 use Rattle.mds_rule.specs.MdsStates.{CompoundRun, MdsValue, file_named, numbered}
 use Rattle.mds_rule.specs.OpSteps.{with_result, at_object, refused_or}
 use Rattle.mds_rule.specs.FileOps.{client_of, open_result, opens_file, opens_or_makes, with_new_file, can_open, may_make}

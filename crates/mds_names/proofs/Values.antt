@@ -13,13 +13,13 @@ use Rattle.ff_xdr.specs.Form.{Value, word, long}
 use Rattle.ff_xdr.proofs.Fields.{length-word}
 use Rattle.ff_xdr.proofs.CutShort.{length-long}
 use Rattle.nfs4_compound.specs.Results.{resop4}
-use Rattle.mds_operations.specs.declared.object.Object.{Object}
-use Rattle.mds_operations.specs.declared.object.Object.TheVariants.{Root, File}
-use Rattle.mds_operations.specs.declared.attributes.TheConstants.{LEASE_TIME, FIRST_WORD, SECOND_WORD, REGULAR, DIRECTORY}
-use Rattle.mds_operations.specs.declared.attributes.Attributes.{Attributes}
-use Rattle.mds_operations.specs.declared.attributes.AskedAttributes.{AskedAttributes}
-use Rattle.mds_operations.specs.declared.layout_get.TheConstants.{FLEX_FILES}
-use Rattle.mds_operations.specs.Attributes.{when, supported_value, type_value, layout_types_value, values_of}
+use Rattle.mds_refusals.specs.declared.object.Object.{Object}
+use Rattle.mds_refusals.specs.declared.object.Object.TheVariants.{Root, File}
+use Rattle.mds_refusals.specs.declared.attributes.TheConstants.{LEASE_TIME, FIRST_WORD, SECOND_WORD, REGULAR, DIRECTORY}
+use Rattle.mds_refusals.specs.declared.attributes.Attributes.{Attributes}
+use Rattle.mds_refusals.specs.declared.attributes.AskedAttributes.{AskedAttributes}
+use Rattle.mds_refusals.specs.declared.layout_get.TheConstants.{FLEX_FILES}
+use Rattle.mds_refusals.specs.Attributes.{when, supported_value, type_value, layout_types_value, values_of}
 use Rattle.mds_rule.specs.MdsStates.{CompoundRun}
 use Rattle.mds_rule.specs.OpSteps.{with_result}
 use Rattle.compound_run.specs.declared.op_end.OpEnd.{OpEnd}

@@ -6,7 +6,7 @@ ghost use Rattle.mds_rule.specs.FileOps.{client_of, current_file, open_number, g
 
 use cluster_model::{Cred, FileId, Phase};
 use compound_run::Run;
-use mds_operations::{Named, Object, state_named};
+use mds_refusals::{Named, Object, state_named};
 use mds_state::State;
 use nfs4_session::client_in;
 use nfs4_types::Stateid;

@@ -8,12 +8,12 @@ ghost use Rattle.cluster_model.specs.declared.outbox.Outbox.{Outbox};
 ghost use Rattle.nfs4_types.specs.Bitmaps.{bitmap4_value};
 ghost use Rattle.mds_rule.specs.FileOps.{object_attributes, runs_get_attr, attributes_result};
 ghost use Rattle.mds_rule.specs.OpSteps.{with_result};
-ghost use Rattle.mds_operations.specs.Attributes.{asked_of};
+ghost use Rattle.mds_refusals.specs.Attributes.{asked_of};
 ghost use Rattle.compound_run.specs.CompoundRuns.{HasRoomForResults, HasOperated, AddsResult, OnGoes};
 
 use compound_run::{OpEnd, Run};
 use ff_xdr::{Items, NoMemory, Opaque, Out};
-use mds_operations::{AskedAttributes, Attributes, Object, current_object};
+use mds_refusals::{AskedAttributes, Attributes, Object, current_object};
 use mds_state::State;
 use nfs4_compound::OpRes;
 use nfs4_compound::nfs4_file_ops::Fattr4;

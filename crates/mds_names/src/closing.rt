@@ -11,7 +11,7 @@ use crate::asked::{client_of, named_in};
 use cluster_model::FileId;
 use compound_run::{OpEnd, Run};
 use ff_xdr::NoMemory;
-use mds_operations::try_close;
+use mds_refusals::try_close;
 use mds_state::State;
 use nfs4_compound::OpRes;
 use nfs4_compound::nfs4_file_ops::CloseArgs;

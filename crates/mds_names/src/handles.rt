@@ -7,7 +7,7 @@ ghost use Rattle.compound_run.specs.CompoundRuns.{HasRoomForResults, HasOperated
 
 use compound_run::{OpEnd, Run};
 use ff_xdr::NoMemory;
-use mds_operations::{Object, current_object, try_lookup, try_put_fh};
+use mds_refusals::{Object, current_object, try_lookup, try_put_fh};
 use mds_state::State;
 use nfs4_compound::OpRes;
 use nfs4_types::{Handle4, OpResult, file_handle};

@@ -15,7 +15,7 @@ use cluster_model::{Cred, FileId, SPARE_UIDS};
 use compound_run::{OpEnd, Run};
 use ff_xdr::{Items, NoMemory};
 use mds_file::MdsFile;
-use mds_operations::{Creation, Object, OpenFound, OpenStep, try_open};
+use mds_refusals::{Creation, Object, OpenFound, OpenStep, try_open};
 use mds_state::{State, can_draw};
 use nfs4_compound::OpRes;
 use nfs4_compound::nfs4_file_ops::{CreateHow4, OpenArgs, OpenHow, OpenOk};

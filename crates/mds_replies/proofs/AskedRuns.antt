@@ -19,10 +19,10 @@ use Rattle.nfs4_session.specs.Clients.{SessionsState}
 use Rattle.nfs4_session.specs.Requests.{request_answer}
 use Rattle.nfs4_session.specs.Bindings.{after_binding}
 use Rattle.nfs4_session.specs.TableLaw.{TableMove, table_after}
-use Rattle.mds_session_calls.specs.SessionOps.{exchange_id_op, create_session_op}
-use Rattle.mds_calls.specs.MdsCalls.{SlotCallValue, MdsCallValue, ExchangeId, CreateSession, OnSlot, ask_on_slot, takes_slot}
-use Rattle.mds_calls.specs.MdsCalls as slot
-use Rattle.mds_calls.specs.MdsCompounds.{slot_ops, mds_ops}
+use Rattle.client_session_calls.specs.SessionOps.{exchange_id_op, create_session_op}
+use Rattle.client_mds_calls.specs.MdsCalls.{SlotCallValue, MdsCallValue, ExchangeId, CreateSession, OnSlot, ask_on_slot, takes_slot}
+use Rattle.client_mds_calls.specs.MdsCalls as slot
+use Rattle.client_mds_calls.specs.MdsCompounds.{slot_ops, mds_ops}
 use Rattle.mds_receive.specs.MdsReceive.{IsCompound, incoming_of}
 use Rattle.mds_rule.specs.MdsStates.{CompoundRun, WaitingRead, WaitingWrite, ServedFile, MdsSend, Replies, MdsValue, MdsStep}
 use Rattle.mds_rule.specs.OpSteps.{with_result, refused_as}

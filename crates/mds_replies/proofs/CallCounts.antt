@@ -11,8 +11,8 @@ use Rattle.cluster_model.specs.declared.ids.NodeId.{NodeId}
 use Rattle.nfs4_types.specs.declared.status.Stat4.TheVariants as stat
 use Rattle.nfs4_compound.specs.Compounds.{CompoundValue, compound_at}
 use Rattle.nfs4_compound.specs.Operations.{rest_of_stop}
-use Rattle.mds_calls.specs.MdsCalls.{MdsCallValue}
-use Rattle.mds_calls.specs.MdsCompounds.{mds_ops}
+use Rattle.client_mds_calls.specs.MdsCalls.{MdsCallValue}
+use Rattle.client_mds_calls.specs.MdsCompounds.{mds_ops}
 use Rattle.mds_receive.specs.MdsReceive.{IncomingValue, IsCompound, nfs_program, nfs_version, null_procedure, compound_procedure, minor_version, max_ops, refuses, refuses_compound, walked, counted, with_head, asks_null, asked, dispatched, of_reply, with_call}
 use Rattle.mds_walk.specs.MdsRuns.{MdsEvent}
 use Rattle.mds_replies.specs.ClientCalls.{IsCallFrom}

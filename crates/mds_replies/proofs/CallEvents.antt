@@ -5,11 +5,11 @@ use Rattle.ff_xdr.specs.Form.{Value, arm_of}
 use Rattle.cluster_model.specs.declared.ids.NodeId.{NodeId}
 use Rattle.nfs4_compound.specs.Args.{argop4}
 use Rattle.nfs4_compound.specs.Compounds.{CompoundValue}
-use Rattle.mds_file_calls.specs.FileOps.{device_info_op}
-use Rattle.mds_calls.specs.FittingCalls.{FitsRequest}
-use Rattle.mds_calls.specs.MdsCalls.{SlotCallValue, MdsCallValue}
-use Rattle.mds_calls.specs.MdsCalls as slot
-use Rattle.mds_calls.specs.MdsCompounds.{slot_ops}
+use Rattle.client_file_calls.specs.FileOps.{device_info_op}
+use Rattle.client_mds_calls.specs.FittingCalls.{FitsRequest}
+use Rattle.client_mds_calls.specs.MdsCalls.{SlotCallValue, MdsCallValue}
+use Rattle.client_mds_calls.specs.MdsCalls as slot
+use Rattle.client_mds_calls.specs.MdsCompounds.{slot_ops}
 use Rattle.mds_receive.specs.MdsReceive.{IncomingValue, PassedOver, IsReply, IsAnswered, IsCompound, incoming_of}
 use Rattle.mds_walk.specs.MdsRuns.{MdsInput, MdsEvent, Hears, IsTimedOut, Ticks, RecallsFile, Resilvers}
 use Rattle.mds_replies.specs.ClientCalls.{IsCallIn, IsCallFrom}

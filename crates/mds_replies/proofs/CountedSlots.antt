@@ -21,7 +21,7 @@ use Rattle.nfs4_session.specs.Bindings.{after_binding, last_session}
 use Rattle.nfs4_session.specs.Ends.{without_client, destroy_client_fault, has_ended}
 use Rattle.nfs4_session.specs.TableLaw.{TableMove, ExchangeId, CreateSession, BeginRequest, FinishRequest, Bind, CallBack, DestroySession, DestroyClient, Expire, table_after, exchanged_unless, called_back_by, destroyed_unless, expired_by, KeepsTable}
 use Rattle.table_slots.specs.TableSlots.{is_of_session, number_taken, effect_on, table_from}
-use Rattle.mds_calls.specs.MdsCalls.{SlotCallValue, OnSlot}
+use Rattle.client_mds_calls.specs.MdsCalls.{SlotCallValue, OnSlot}
 use Rattle.mds_receive.specs.MdsReceive.{incoming_of}
 use Rattle.mds_rule.specs.MdsStates.{MdsValue, new_mds}
 use Rattle.mds_walk.specs.MdsRuns.{MdsInput, MdsEvent, Hears, IsTimedOut, Ticks, RecallsFile, Resilvers, after_event}

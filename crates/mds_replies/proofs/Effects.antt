@@ -14,7 +14,7 @@ use Rattle.nfs4_session.specs.Requests.{request_answer}
 use Rattle.nfs4_session.specs.Bindings.{after_binding}
 use Rattle.nfs4_session.specs.SlotsLaw.{AreNumbered}
 use Rattle.table_slots.specs.TableSlots.{is_of_slot, number_taken, effect_on}
-use Rattle.mds_calls.specs.MdsCalls.{SlotCallValue}
+use Rattle.client_mds_calls.specs.MdsCalls.{SlotCallValue}
 use Rattle.mds_receive.specs.MdsReceive.{IncomingValue}
 use Rattle.mds_rule.specs.MdsStates.{MdsValue, new_mds}
 use Rattle.mds_walk.specs.MdsRuns.{MdsEvent, after_event, run_from}

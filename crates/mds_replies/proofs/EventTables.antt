@@ -21,7 +21,7 @@ use Rattle.nfs4_session.specs.Bindings.{after_binding}
 use Rattle.nfs4_session.specs.Beginning.{table_begun}
 use Rattle.nfs4_session.specs.TableLaw.{TableMove, table_after}
 use Rattle.table_slots.specs.TableSlots.{is_of_session, is_of_slot, number_taken, effect_on, table_from}
-use Rattle.mds_calls.specs.MdsCalls.{SlotCallValue, ExchangeId, CreateSession, OnSlot}
+use Rattle.client_mds_calls.specs.MdsCalls.{SlotCallValue, ExchangeId, CreateSession, OnSlot}
 use Rattle.mds_receive.specs.MdsReceive.{IncomingValue, PassedOver, IsReply, IsAnswered, IsCompound, incoming_of}
 use Rattle.mds_rule.specs.Answers.{own_answer}
 use Rattle.mds_rule.specs.MdsStates.{ServedFile, MdsSend, CallsServer, CallsBack, Replies, Answers, AwaitedCall, MdsValue, with_call, with_served}

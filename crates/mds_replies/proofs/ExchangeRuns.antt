@@ -18,9 +18,9 @@ use Rattle.nfs4_session.specs.declared.faults.IdFault.{IdFault}
 use Rattle.nfs4_session.specs.Clients.{ClientState, SessionsState, client_id, is_owned_by}
 use Rattle.nfs4_session.specs.ExchangeIds.{ExchangeCase, ReplacesUnconfirmed, Restarts, IsNewOwner, is_by, is_unconfirmed_of, is_confirmed_of, case_of_others, case_of_unconfirmed, case_of_confirmed, exchange_case, exchange_fault, new_client, given_client, exchanged, after_exchange}
 use Rattle.nfs4_session.specs.TableLaw.{ExchangeId as Exchanges, table_after, exchanged_unless}
-use Rattle.mds_calls.specs.declared.ask.MdsAsk.TheVariants as ask
-use Rattle.mds_calls.specs.MdsCalls.{ExchangeId}
-use Rattle.mds_calls.specs.MdsReplies.{MdsAnswerValue, Client, reply_of_ask, MdsReplyValue}
+use Rattle.client_mds_calls.specs.declared.ask.MdsAsk.TheVariants as ask
+use Rattle.client_mds_calls.specs.MdsCalls.{ExchangeId}
+use Rattle.client_mds_calls.specs.MdsReplies.{MdsAnswerValue, Client, reply_of_ask, MdsReplyValue}
 use Rattle.mds_rule.specs.MdsStates.{CompoundRun, Replies, MdsValue, MdsStep, and_then}
 use Rattle.mds_rule.specs.OpSteps.{refused_as}
 use Rattle.mds_rule.specs.SessionOps.{exchange_flags, exchange_result, with_exchange}

@@ -15,7 +15,7 @@ use Rattle.nfs4_session.specs.Slots.{SlotState, SlotReply, NoRequest, InProgress
 use Rattle.nfs4_session.specs.Clients.{ClientState, SessionState, SessionsState, no_clients, has_id, has_number, client_in, number_in, session_of_client, session_of, change_first, change_session, with_sessions}
 use Rattle.nfs4_session.specs.Requests.{answer_by_slot, answer_by_session, request_answer, change_at, change_slot, after_request, after_finish}
 use Rattle.nfs4_session.specs.TableLaw.{TableMove, table_after, TableRun, table_moved, table_run, IsTable, KeepsTable}
-use Rattle.mds_calls.specs.MdsCalls.{SlotCallValue}
+use Rattle.client_mds_calls.specs.MdsCalls.{SlotCallValue}
 use Rattle.mds_rule.specs.MdsStates.{new_mds}
 use Rattle.mds_walk.specs.MdsRuns.{MdsEvent}
 use Rattle.mds_laws.proofs.Keeping.{IsNoRequest}

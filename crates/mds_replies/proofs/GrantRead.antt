@@ -27,10 +27,10 @@ use Rattle.nfs4_compound.specs.Results.{resop4}
 use Rattle.cluster_model.specs.declared.ids.Mirror.{Mirror}
 use Rattle.cluster_model.specs.Mirrors.{are_mirrors}
 use Rattle.ds_calls.proofs.DsCallsAgain.{whole_spelled}
-use Rattle.mds_file_calls.specs.declared.grant.LayoutGrant.{LayoutGrant}
-use Rattle.mds_file_calls.specs.LayoutGrants.{user_number_in, server_number, server_in, granted_mirror_at, granted_mirror_of, under_one, joined_mirror, mirrors_under, granted_to, grant_by, layout_grant_of}
-use Rattle.mds_file_calls.specs.FileResults.{layout_get_ok}
-use Rattle.mds_file_calls.proofs.Numbers.{number_is}
+use Rattle.client_file_calls.specs.declared.grant.LayoutGrant.{LayoutGrant}
+use Rattle.client_file_calls.specs.LayoutGrants.{user_number_in, server_number, server_in, granted_mirror_at, granted_mirror_of, under_one, joined_mirror, mirrors_under, granted_to, grant_by, layout_grant_of}
+use Rattle.client_file_calls.specs.FileResults.{layout_get_ok}
+use Rattle.client_file_calls.proofs.Numbers.{number_is}
 use Rattle.granted_layouts.specs.GrantedBodies.{server_under, mirror_under, layout_under, layout_body, layout_length, layout_result, whole_layout}
 use Rattle.same_layout.specs.SameLayout.{unseen}
 use Rattle.mds_replies.specs.AnsweredRequests.{FitsMirrorId}

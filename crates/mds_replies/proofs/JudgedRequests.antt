@@ -13,11 +13,11 @@ use Rattle.nfs4_compound.specs.Compounds.{compound4_res}
 use Rattle.nfs4_session.specs.Slots.{SlotState, SlotReply, NoRequest, InProgress, Cached, Uncached as NotKept, SlotAnswer, TakesEffect, Repeats, Refuses, answer_again, is_in_progress, sequence_after, slot_answer}
 use Rattle.nfs4_session.specs.Clients.{client_in, number_in}
 use Rattle.table_slots.specs.TableSlots.{is_of_session}
-use Rattle.mds_calls.specs.declared.reply.SlotReport.{SlotReport}
-use Rattle.mds_calls.specs.FittingCalls.{FitsRequest}
-use Rattle.mds_calls.specs.MdsCalls.{SlotCallValue, OnSlot, ask_on_slot}
-use Rattle.mds_calls.specs.MdsCalls as slot
-use Rattle.mds_calls.specs.MdsReplies.{MdsAnswerValue, Refused, MdsReplyValue, slot_status, slot_told, results_of_ask, reply_of_ask}
+use Rattle.client_mds_calls.specs.declared.reply.SlotReport.{SlotReport}
+use Rattle.client_mds_calls.specs.FittingCalls.{FitsRequest}
+use Rattle.client_mds_calls.specs.MdsCalls.{SlotCallValue, OnSlot, ask_on_slot}
+use Rattle.client_mds_calls.specs.MdsCalls as slot
+use Rattle.client_mds_calls.specs.MdsReplies.{MdsAnswerValue, Refused, MdsReplyValue, slot_status, slot_told, results_of_ask, reply_of_ask}
 use Rattle.mds_rule.specs.OpSteps.{refused_as}
 use Rattle.mds_walk.specs.MdsRuns.{MdsEvent}
 use Rattle.mds_replies.specs.AnsweredRequests.{TookEffectAmong, IsRefusedWith, HasNoSession, IsOutOfOrder}

@@ -15,7 +15,7 @@ use Rattle.nfs4_session.specs.Clients.{ClientState, SessionState, SessionsState,
 use Rattle.nfs4_session.specs.Requests.{answer_by_slot, answer_by_session, request_answer, change_at, change_slot, after_request, after_finish, pass_of}
 use Rattle.nfs4_session.specs.Bindings.{last_session, client_called_back, called_back}
 use Rattle.nfs4_session.specs.TableLaw.{called_back_by}
-use Rattle.mds_calls.specs.MdsCalls.{SlotCallValue}
+use Rattle.client_mds_calls.specs.MdsCalls.{SlotCallValue}
 use Rattle.mds_rule.specs.MdsStates.{MdsSend, CallsServer, CallsBack, AwaitedCall, MdsValue}
 use Rattle.mds_rule.specs.declared.waiter.Waiter.TheVariants.{ForFile, ForRead, ForWrite, ForRecall}
 use Rattle.mds_rule.specs.Goes.{calls_out}

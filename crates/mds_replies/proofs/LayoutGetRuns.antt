@@ -25,16 +25,16 @@ use Rattle.nfs4_compound.specs.Results.{resop4}
 use Rattle.nfs4_session.specs.declared.begin.SlotPass.{SlotPass}
 use Rattle.nfs4_session.specs.Clients.{client_in}
 use Rattle.nfs4_file_ops.specs.declared.layout_get.LayoutGetArgs.{LayoutGetArgs}
-use Rattle.mds_file_calls.specs.FileOps.{layout_get_op, put_fh_op, whole_length}
-use Rattle.mds_file_calls.specs.declared.layouts.TheConstants.{FLEX_FILES, MAX_COUNT, READS_AND_WRITES}
+use Rattle.client_file_calls.specs.FileOps.{layout_get_op, put_fh_op, whole_length}
+use Rattle.client_file_calls.specs.declared.layouts.TheConstants.{FLEX_FILES, MAX_COUNT, READS_AND_WRITES}
 use Rattle.granted_layouts.specs.GrantedBodies.{layout_length}
-use Rattle.mds_operations.specs.declared.object.Object.{Object}
-use Rattle.mds_operations.specs.declared.layout_get.LayoutGetFound.{LayoutGetFound}
-use Rattle.mds_operations.specs.Orders.{is_root, file_of, refusal}
-use Rattle.mds_operations.specs.LayoutGets.{layout_get_order}
-use Rattle.mds_operations.specs.PutFh.{object_numbered}
-use Rattle.mds_calls.specs.declared.reply.SlotReport.TheVariants.{Taken}
-use Rattle.mds_calls.specs.MdsReplies.{slot_answer_of}
+use Rattle.mds_refusals.specs.declared.object.Object.{Object}
+use Rattle.mds_refusals.specs.declared.layout_get.LayoutGetFound.{LayoutGetFound}
+use Rattle.mds_refusals.specs.Orders.{is_root, file_of, refusal}
+use Rattle.mds_refusals.specs.LayoutGets.{layout_get_order}
+use Rattle.mds_refusals.specs.PutFh.{object_numbered}
+use Rattle.client_mds_calls.specs.declared.reply.SlotReport.TheVariants.{Taken}
+use Rattle.client_mds_calls.specs.MdsReplies.{slot_answer_of}
 use Rattle.mds_rule.specs.MdsStates.{CompoundRun, ServedFile, MdsValue, MdsStep, sends_none, confirmed_node, served, with_served}
 use Rattle.mds_rule.specs.ServedFiles.{has_fresh, takes_input, asks_back}
 use Rattle.mds_rule.specs.OpSteps.{OpStep, refuses, refused_as, refused_or}

@@ -25,19 +25,19 @@ use Rattle.nfs4_compound.specs.Args.{argop4}
 use Rattle.nfs4_compound.specs.Results.{resop4}
 use Rattle.nfs4_session.specs.declared.begin.SlotPass.{SlotPass}
 use Rattle.nfs4_session.specs.Clients.{client_in}
-use Rattle.mds_file_calls.specs.FileOps.{layout_return_op, put_fh_op, return_body, whole_length, flex_files}
-use Rattle.mds_file_calls.specs.declared.layout_return.FailedMirror.{FailedMirror}
-use Rattle.mds_operations.specs.declared.object.Object.{Object}
-use Rattle.mds_operations.specs.declared.object.Object.TheVariants.{File}
-use Rattle.mds_operations.specs.declared.named.Named.{Named}
-use Rattle.mds_operations.specs.declared.named.Named.TheVariants as name
-use Rattle.mds_operations.specs.declared.layout_return.FileReturn.{FileReturn}
-use Rattle.mds_operations.specs.Stateids.{is_open_of, is_layout_of, named_by, is_layout}
-use Rattle.mds_operations.specs.Orders.{is_file, file_of, refusal}
-use Rattle.mds_operations.specs.LayoutReturns.{is_whole, layout_return_order}
-use Rattle.mds_operations.specs.PutFh.{object_numbered}
-use Rattle.mds_calls.specs.declared.reply.SlotReport.TheVariants.{Taken}
-use Rattle.mds_calls.specs.MdsReplies.{slot_answer_of}
+use Rattle.client_file_calls.specs.FileOps.{layout_return_op, put_fh_op, return_body, whole_length, flex_files}
+use Rattle.client_file_calls.specs.declared.layout_return.FailedMirror.{FailedMirror}
+use Rattle.mds_refusals.specs.declared.object.Object.{Object}
+use Rattle.mds_refusals.specs.declared.object.Object.TheVariants.{File}
+use Rattle.mds_refusals.specs.declared.named.Named.{Named}
+use Rattle.mds_refusals.specs.declared.named.Named.TheVariants as name
+use Rattle.mds_refusals.specs.declared.layout_return.FileReturn.{FileReturn}
+use Rattle.mds_refusals.specs.Stateids.{is_open_of, is_layout_of, named_by, is_layout}
+use Rattle.mds_refusals.specs.Orders.{is_file, file_of, refusal}
+use Rattle.mds_refusals.specs.LayoutReturns.{is_whole, layout_return_order}
+use Rattle.mds_refusals.specs.PutFh.{object_numbered}
+use Rattle.client_mds_calls.specs.declared.reply.SlotReport.TheVariants.{Taken}
+use Rattle.client_mds_calls.specs.MdsReplies.{slot_answer_of}
 use Rattle.mds_rule.specs.MdsStates.{CompoundRun, ServedFile, MdsValue, MdsStep, served}
 use Rattle.mds_rule.specs.ServedFiles.{takes_input}
 use Rattle.mds_rule.specs.OpSteps.{OpStep, Ends, refuses, refused_as, refused_or}
@@ -244,7 +244,7 @@ module _ (now : ℕ) (m : MdsValue) (node : NodeId) (xid : ℕ) (pass : SlotPass
 
   by_refusal : (status : Stat4) → refusal (layout_return_order (Some (object_numbered file.0)) asked) ≡ Some status → stat4_number status ≡ 10025 → NamesNone m client file stateid
   by_refusal status is number uid own p =
-      not_so (sym (ap not (has_named uid own p)) ∙ last_refuses (is_none (Some (object_numbered file.0))) (not (flex_files == Rattle.mds_operations.specs.declared.layout_get.TheConstants.FLEX_FILES)) (false || not (is_whole asked)) (not asked.has_body) (not (is_file (Some (object_numbered file.0)) && is_layout named)) status is number)
+      not_so (sym (ap not (has_named uid own p)) ∙ last_refuses (is_none (Some (object_numbered file.0))) (not (flex_files == Rattle.mds_refusals.specs.declared.layout_get.TheConstants.FLEX_FILES)) (false || not (is_whole asked)) (not asked.has_body) (not (is_file (Some (object_numbered file.0)) && is_layout named)) status is number)
     where
       not_so : false ≡ true → ⊥
       not_so e = absurd cc

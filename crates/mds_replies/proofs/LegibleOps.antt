@@ -23,24 +23,24 @@ use Rattle.nfs4_compound.specs.Results.{resop4}
 use Rattle.nfs4_session.specs.declared.begin.SlotPass.{SlotPass}
 use Rattle.nfs4_session.specs.Clients.{client_in}
 use Rattle.open_state.specs.Opens.{open_of, given}
-use Rattle.mds_file_calls.specs.declared.open.TheConstants.{SHARE_BOTH}
-use Rattle.mds_file_calls.specs.declared.layouts.TheConstants.{FLEX_FILES, MAX_COUNT}
-use Rattle.mds_file_calls.specs.FileOps.{put_fh_op, open_op, device_info_op, device_info_ops, write_op, read_op}
-use Rattle.mds_calls.specs.MdsCalls.{SlotCallValue}
-use Rattle.mds_calls.specs.MdsCalls as slot
-use Rattle.mds_calls.specs.MdsCompounds.{slot_ops}
-use Rattle.mds_operations.specs.declared.object.Object.{Object}
-use Rattle.mds_operations.specs.declared.object.Object.TheVariants.{Root, File}
-use Rattle.mds_operations.specs.declared.open.Creation.{Creation}
-use Rattle.mds_operations.specs.declared.open.OpenFound.{OpenFound}
-use Rattle.mds_operations.specs.declared.read.ReadAsk.{ReadAsk}
-use Rattle.mds_operations.specs.declared.write.WriteAsk.{WriteAsk}
-use Rattle.mds_operations.specs.Orders.{Order, refusal}
-use Rattle.mds_operations.specs.PutFh.{put_fh_order, object_of}
-use Rattle.mds_operations.specs.Opens.{open_order}
-use Rattle.mds_operations.specs.Reads.{read_order}
-use Rattle.mds_operations.specs.Writes.{write_order}
-use Rattle.mds_operations.specs.GetDeviceInfo.{device_info_order}
+use Rattle.client_file_calls.specs.declared.open.TheConstants.{SHARE_BOTH}
+use Rattle.client_file_calls.specs.declared.layouts.TheConstants.{FLEX_FILES, MAX_COUNT}
+use Rattle.client_file_calls.specs.FileOps.{put_fh_op, open_op, device_info_op, device_info_ops, write_op, read_op}
+use Rattle.client_mds_calls.specs.MdsCalls.{SlotCallValue}
+use Rattle.client_mds_calls.specs.MdsCalls as slot
+use Rattle.client_mds_calls.specs.MdsCompounds.{slot_ops}
+use Rattle.mds_refusals.specs.declared.object.Object.{Object}
+use Rattle.mds_refusals.specs.declared.object.Object.TheVariants.{Root, File}
+use Rattle.mds_refusals.specs.declared.open.Creation.{Creation}
+use Rattle.mds_refusals.specs.declared.open.OpenFound.{OpenFound}
+use Rattle.mds_refusals.specs.declared.read.ReadAsk.{ReadAsk}
+use Rattle.mds_refusals.specs.declared.write.WriteAsk.{WriteAsk}
+use Rattle.mds_refusals.specs.Orders.{Order, refusal}
+use Rattle.mds_refusals.specs.PutFh.{put_fh_order, object_of}
+use Rattle.mds_refusals.specs.Opens.{open_order}
+use Rattle.mds_refusals.specs.Reads.{read_order}
+use Rattle.mds_refusals.specs.Writes.{write_order}
+use Rattle.mds_refusals.specs.GetDeviceInfo.{device_info_order}
 use Rattle.mds_rule.specs.MdsStates.{CompoundRun, ServedFile, MdsValue, served, file_named, numbered}
 use Rattle.mds_rule.specs.OpSteps.{OpStep, Goes, with_result, refuses, refused_as, refused_or}
 use Rattle.mds_rule.specs.ServedFiles.{asks_back}

@@ -10,10 +10,10 @@ use Rattle.nfs4_types.specs.declared.status.Stat4.TheVariants as stat
 use Rattle.nfs4_types.specs.Status.{stat4_number, stats4}
 use Rattle.nfs4_compound.specs.Results.{resop4}
 use Rattle.nfs4_compound.specs.Compounds.{compound4_res}
-use Rattle.mds_calls.specs.declared.reply.SlotReport.TheVariants.{Taken}
-use Rattle.mds_calls.specs.MdsCalls.{SlotCallValue, ask_on_slot}
-use Rattle.mds_calls.specs.MdsCalls as slot
-use Rattle.mds_calls.specs.MdsReplies.{MdsReplyValue, slot_answer_of, slot_told, reply_of_ask}
+use Rattle.client_mds_calls.specs.declared.reply.SlotReport.TheVariants.{Taken}
+use Rattle.client_mds_calls.specs.MdsCalls.{SlotCallValue, ask_on_slot}
+use Rattle.client_mds_calls.specs.MdsCalls as slot
+use Rattle.client_mds_calls.specs.MdsReplies.{MdsReplyValue, slot_answer_of, slot_told, reply_of_ask}
 use Rattle.mds_rule.specs.MdsStates.{CompoundRun}
 use Rattle.mds_rule.specs.Compounds.{compound_bytes, sequence_result}
 use Rattle.mds_walk.proofs.Lists.{AllOf, all_push}

@@ -7,12 +7,12 @@ use Rattle.nfs4_compound.specs.Args.{argop4}
 use Rattle.nfs4_session.specs.Clients.{ClientState, SessionsState, client_id}
 use Rattle.nfs4_session.specs.ExchangeIds.{new_client}
 use Rattle.nfs4_session.specs.TableLaw.{TableMove, ExchangeId as Exchanges, table_after}
-use Rattle.mds_calls.specs.MdsCalls.{ExchangeId}
+use Rattle.client_mds_calls.specs.MdsCalls.{ExchangeId}
 use Rattle.mds_rule.specs.MdsStates.{MdsValue, new_mds}
 use Rattle.mds_rule.specs.Goes.{calls_out}
 use Rattle.mds_walk.specs.MdsRuns.{MdsInput, MdsEvent, Hears, after_event, run_from}
 use Rattle.mds_receive.specs.MdsReceive.{IncomingValue, IsCompound, incoming_of}
-use Rattle.mds_parts.specs.MdsResults.{in_arm}
+use Rattle.client_compounds.specs.MdsResults.{in_arm}
 use Rattle.mds_replies.specs.ClientCalls.{server_after}
 use Rattle.mds_replies.specs.ClientIds.{GivesId, IdsAreOwn}
 use Rattle.mds_replies.proofs.Periods.{run_behind}

@@ -10,9 +10,9 @@ use Rattle.nfs4_types.specs.Status.{stat4_number, stats4}
 use Rattle.nfs4_compound.specs.Results.{resop4}
 use Rattle.nfs4_compound.specs.Compounds.{compound4_res}
 use Rattle.compound_reply.specs.Replied.{success_reply}
-use Rattle.mds_calls.specs.declared.ask.MdsAsk.{MdsAsk}
-use Rattle.mds_calls.specs.MdsReplies.{MdsAnswerValue, MdsReplyValue, Refused, reply_of_ask, results_of_ask}
-use Rattle.mds_operations.specs.Orders.{Order, refusal}
+use Rattle.client_mds_calls.specs.declared.ask.MdsAsk.{MdsAsk}
+use Rattle.client_mds_calls.specs.MdsReplies.{MdsAnswerValue, MdsReplyValue, Refused, reply_of_ask, results_of_ask}
+use Rattle.mds_refusals.specs.Orders.{Order, refusal}
 use Rattle.mds_rule.specs.OpSteps.{refused_as}
 use Rattle.mds_rule.specs.Compounds.{sequence_result}
 use Rattle.mds_walk.proofs.Lists.{AllOf}

@@ -12,10 +12,10 @@ use Rattle.nfs4_compound.specs.Args.{argop4}
 use Rattle.nfs4_compound.specs.Compounds.{CompoundValue, compound4_res}
 use Rattle.compound_reply.specs.Replied.{success_reply}
 use Rattle.ds_calls.proofs.DsCallsAgain.{whole_spelled}
-use Rattle.mds_calls.specs.declared.ask.MdsAsk.{MdsAsk}
-use Rattle.mds_calls.specs.MdsCalls.{MdsCallValue}
-use Rattle.mds_calls.specs.MdsCompounds.{mds_ops}
-use Rattle.mds_calls.specs.MdsReplies.{reply_of_ask, compound_reply}
+use Rattle.client_mds_calls.specs.declared.ask.MdsAsk.{MdsAsk}
+use Rattle.client_mds_calls.specs.MdsCalls.{MdsCallValue}
+use Rattle.client_mds_calls.specs.MdsCompounds.{mds_ops}
+use Rattle.client_mds_calls.specs.MdsReplies.{reply_of_ask, compound_reply}
 use Rattle.mds_receive.specs.MdsReceive.{IncomingValue}
 use Rattle.mds_rule.specs.MdsStates.{MdsSend, CallsServer, CallsBack, Replies, Answers, AwaitedCall, MdsValue, MdsStep, and_then}
 use Rattle.mds_rule.specs.Compounds.{first_operation, runs_compound}

@@ -26,12 +26,12 @@ use Rattle.layout_report.specs.Reports.{is_reported, report_of}
 use Rattle.nfs4_types.specs.declared.stateid.Stateid.{Stateid}
 use Rattle.nfs4_types.specs.Ids.{device_id_of}
 use Rattle.ds_calls.proofs.DsCallsAgain.{whole_spelled}
-use Rattle.mds_file_calls.specs.declared.layout_return.FailedMirror.{FailedMirror}
-use Rattle.mds_file_calls.specs.FileOps.{io_error_of, return_body}
+use Rattle.client_file_calls.specs.declared.layout_return.FailedMirror.{FailedMirror}
+use Rattle.client_file_calls.specs.FileOps.{io_error_of, return_body}
 use Rattle.mds_rule.specs.MdsStates.{ServedFile, MdsValue, MdsStep, sends_none, served}
 use Rattle.mds_rule.specs.ServedFiles.{has_fresh, file_stepped, input_at, takes_input}
 use Rattle.mds_rule.specs.LayoutOps.{errors_in, errors_of, client_number}
-use Rattle.mds_calls.specs.FittingCalls.{reports_server}
+use Rattle.client_mds_calls.specs.FittingCalls.{reports_server}
 use Rattle.mds_walk.proofs.Lists.{in_last}
 
 abbrev pub errors_for : Stateid → List FailedMirror → List (Value ff_ioerr4)

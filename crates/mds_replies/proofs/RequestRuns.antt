@@ -26,13 +26,13 @@ use Rattle.nfs4_session.specs.Requests.{request_answer, after_request, pass_of, 
 use Rattle.nfs4_session.specs.Bindings.{after_binding}
 use Rattle.nfs4_session.specs.TableLaw.{TableMove, Bind, BeginRequest, FinishRequest, table_after, KeepsTable}
 use Rattle.nfs4_session.specs.Beginning.{table_begun}
-use Rattle.mds_session_calls.specs.SessionOps.{exchange_id_op, create_session_op}
-use Rattle.mds_calls.specs.declared.reply.SlotReport.TheVariants.{Taken}
-use Rattle.mds_calls.specs.FittingCalls.{FitsRequest}
-use Rattle.mds_calls.specs.MdsCalls.{SlotCallValue, MdsCallValue, ExchangeId, CreateSession, OnSlot, ask_on_slot, is_kept_reply}
-use Rattle.mds_calls.specs.MdsCalls as slot
-use Rattle.mds_calls.specs.MdsCompounds.{slot_ops, mds_ops}
-use Rattle.mds_calls.specs.MdsReplies.{reply_of_ask}
+use Rattle.client_session_calls.specs.SessionOps.{exchange_id_op, create_session_op}
+use Rattle.client_mds_calls.specs.declared.reply.SlotReport.TheVariants.{Taken}
+use Rattle.client_mds_calls.specs.FittingCalls.{FitsRequest}
+use Rattle.client_mds_calls.specs.MdsCalls.{SlotCallValue, MdsCallValue, ExchangeId, CreateSession, OnSlot, ask_on_slot, is_kept_reply}
+use Rattle.client_mds_calls.specs.MdsCalls as slot
+use Rattle.client_mds_calls.specs.MdsCompounds.{slot_ops, mds_ops}
+use Rattle.client_mds_calls.specs.MdsReplies.{reply_of_ask}
 use Rattle.mds_receive.specs.MdsReceive.{IsCompound, incoming_of}
 use Rattle.mds_rule.specs.MdsStates.{CompoundRun, WaitingRead, WaitingWrite, ServedFile, MdsSend, Replies, MdsValue, MdsStep, and_then}
 use Rattle.mds_rule.specs.OpSteps.{with_result, refused_as}

@@ -36,12 +36,12 @@ use Rattle.nfs4_session.specs.Clients.{SessionsState, client_in}
 use Rattle.nfs4_session.specs.Slots.{SlotAnswer, TakesEffect, Repeats, Refuses}
 use Rattle.nfs4_session.specs.Requests.{request_answer, after_request, pass_of}
 use Rattle.nfs4_session.specs.Bindings.{after_binding}
-use Rattle.mds_session_calls.specs.SessionOps.{exchange_id_op, create_session_op}
-use Rattle.mds_file_calls.specs.declared.layout_return.FailedMirror.{FailedMirror}
-use Rattle.mds_calls.specs.FittingCalls.{FitsRequest}
-use Rattle.mds_calls.specs.MdsCalls.{SlotCallValue, MdsCallValue, ExchangeId, CreateSession, OnSlot}
-use Rattle.mds_calls.specs.MdsCalls as slot
-use Rattle.mds_calls.specs.MdsCompounds.{slot_ops, mds_ops}
+use Rattle.client_session_calls.specs.SessionOps.{exchange_id_op, create_session_op}
+use Rattle.client_file_calls.specs.declared.layout_return.FailedMirror.{FailedMirror}
+use Rattle.client_mds_calls.specs.FittingCalls.{FitsRequest}
+use Rattle.client_mds_calls.specs.MdsCalls.{SlotCallValue, MdsCallValue, ExchangeId, CreateSession, OnSlot}
+use Rattle.client_mds_calls.specs.MdsCalls as slot
+use Rattle.client_mds_calls.specs.MdsCompounds.{slot_ops, mds_ops}
 use Rattle.mds_rule.specs.MdsStates.{CompoundRun, ServedFile, MdsSend, Replies, MdsValue, MdsStep, served, with_served, new_mds}
 use Rattle.mds_rule.specs.ServedFiles.{file_behind, file_stepped, is_period_end}
 use Rattle.mds_rule.specs.OpSteps.{with_result, refused_as}

@@ -41,17 +41,17 @@ use Rattle.nfs4_session.specs.CreateSessions.{CreateSessionCase, create_session_
 use Rattle.nfs4_session.specs.Ends.{destroy_client_fault, without_session, without_client}
 use Rattle.open_state.specs.declared.open.Open.{Open}
 use Rattle.open_state.specs.Opens.{open_of}
-use Rattle.mds_operations.specs.declared.object.Object.{Object}
-use Rattle.mds_operations.specs.Orders.{refusal}
-use Rattle.mds_operations.specs.declared.object.Object.TheVariants.{Root, File}
-use Rattle.mds_operations.specs.Lookup.{lookup_order}
-use Rattle.mds_operations.specs.Commit.{commit_order}
-use Rattle.mds_operations.specs.LayoutReturns.{layout_return_all_order}
-use Rattle.mds_operations.specs.LayoutCommit.{layout_commit_order}
-use Rattle.mds_operations.specs.PutFh.{put_fh_order, object_of}
-use Rattle.mds_operations.specs.Writes.{write_order}
-use Rattle.mds_operations.specs.LayoutGets.{layout_get_order}
-use Rattle.mds_operations.specs.GetDeviceInfo.{device_info_order}
+use Rattle.mds_refusals.specs.declared.object.Object.{Object}
+use Rattle.mds_refusals.specs.Orders.{refusal}
+use Rattle.mds_refusals.specs.declared.object.Object.TheVariants.{Root, File}
+use Rattle.mds_refusals.specs.Lookup.{lookup_order}
+use Rattle.mds_refusals.specs.Commit.{commit_order}
+use Rattle.mds_refusals.specs.LayoutReturns.{layout_return_all_order}
+use Rattle.mds_refusals.specs.LayoutCommit.{layout_commit_order}
+use Rattle.mds_refusals.specs.PutFh.{put_fh_order, object_of}
+use Rattle.mds_refusals.specs.Writes.{write_order}
+use Rattle.mds_refusals.specs.LayoutGets.{layout_get_order}
+use Rattle.mds_refusals.specs.GetDeviceInfo.{device_info_order}
 use Rattle.mds_rule.specs.MdsStates.{CompoundRun, ServedFile, MdsValue, MdsStep, sends_none, confirmed_node, served, file_named}
 use Rattle.mds_rule.specs.OpSteps.{OpStep, Goes, Ends, Waits, with_result, at_object, gives, refuses, refused_as, refused_or}
 use Rattle.mds_rule.specs.ServedFiles.{takes_input, asks_back, ends_periods, ends_client}

@@ -11,10 +11,10 @@ use Rattle.nfs4_compound.specs.Compounds.{compound4_res}
 use Rattle.compound_reply.specs.Replied.{success_reply}
 use Rattle.nfs4_session.specs.Clients.{client_in, session_id, ClientState}
 use Rattle.nfs4_session.specs.CreateSessions.{CreateSessionCase, IsDue, IsReplay, IsMisordered, HasNoRoom, IsStale, create_session_case, create_session_fault, after_creating, is_before_restart}
-use Rattle.mds_session_calls.specs.SessionOps as asked
-use Rattle.mds_calls.specs.declared.ask.MdsAsk.TheVariants as ask
-use Rattle.mds_calls.specs.MdsCalls.{CreateSession}
-use Rattle.mds_calls.specs.MdsReplies.{MdsAnswerValue, MdsReplyValue, Session, reply_of_ask, compound_reply}
+use Rattle.client_session_calls.specs.SessionOps as asked
+use Rattle.client_mds_calls.specs.declared.ask.MdsAsk.TheVariants as ask
+use Rattle.client_mds_calls.specs.MdsCalls.{CreateSession}
+use Rattle.client_mds_calls.specs.MdsReplies.{MdsAnswerValue, MdsReplyValue, Session, reply_of_ask, compound_reply}
 use Rattle.mds_rule.specs.MdsStates.{Replies, MdsValue, MdsStep, and_then}
 use Rattle.mds_rule.specs.OpSteps.{refused_as}
 use Rattle.mds_rule.specs.SessionOps.{create_result, with_create, confirms}

@@ -14,7 +14,7 @@ use Rattle.nfs4_session.specs.Requests.{request_answer}
 use Rattle.nfs4_session.specs.Bindings.{after_binding}
 use Rattle.nfs4_session.specs.TableLaw.{Bind, KeepsTable}
 use Rattle.table_slots.specs.TableSlots.{is_of_session, table_from}
-use Rattle.mds_calls.specs.MdsCalls.{SlotCallValue}
+use Rattle.client_mds_calls.specs.MdsCalls.{SlotCallValue}
 use Rattle.mds_rule.specs.MdsStates.{MdsValue}
 use Rattle.mds_walk.specs.MdsRuns.{MdsEvent}
 use Rattle.mds_walk.proofs.Requested.{begun_moves}

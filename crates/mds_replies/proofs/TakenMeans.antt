@@ -31,16 +31,16 @@ use Rattle.nfs4_session.specs.Slots.{SlotState, TakesEffect, kept_as, slot_begun
 use Rattle.nfs4_session.specs.Clients.{SessionsState, client_in, session_of}
 use Rattle.nfs4_session.specs.Requests.{request_answer, pass_of}
 use Rattle.nfs4_session.specs.Bindings.{after_binding}
-use Rattle.mds_file_calls.specs.declared.grant.LayoutGrant.{LayoutGrant}
-use Rattle.mds_file_calls.specs.declared.layout_return.FailedMirror.{FailedMirror}
-use Rattle.mds_file_calls.specs.declared.open.OpenFile.{OpenFile}
-use Rattle.mds_file_calls.specs.FileResults.{layout_get_ok}
-use Rattle.mds_calls.specs.declared.ask.MdsAsk.TheVariants as ask
-use Rattle.mds_calls.specs.FittingCalls.{reports_server, FitsSlotCall, FitsRequest}
-use Rattle.mds_calls.specs.MdsCalls.{SlotCallValue, OnSlot, ask_on_slot}
-use Rattle.mds_calls.specs.MdsCalls as slot
-use Rattle.mds_calls.specs.MdsCompounds.{slot_ops, mds_ops}
-use Rattle.mds_calls.specs.MdsReplies.{MdsAnswerValue, Granted, answer_where, reply_of_ask}
+use Rattle.client_file_calls.specs.declared.grant.LayoutGrant.{LayoutGrant}
+use Rattle.client_file_calls.specs.declared.layout_return.FailedMirror.{FailedMirror}
+use Rattle.client_file_calls.specs.declared.open.OpenFile.{OpenFile}
+use Rattle.client_file_calls.specs.FileResults.{layout_get_ok}
+use Rattle.client_mds_calls.specs.declared.ask.MdsAsk.TheVariants as ask
+use Rattle.client_mds_calls.specs.FittingCalls.{reports_server, FitsSlotCall, FitsRequest}
+use Rattle.client_mds_calls.specs.MdsCalls.{SlotCallValue, OnSlot, ask_on_slot}
+use Rattle.client_mds_calls.specs.MdsCalls as slot
+use Rattle.client_mds_calls.specs.MdsCompounds.{slot_ops, mds_ops}
+use Rattle.client_mds_calls.specs.MdsReplies.{MdsAnswerValue, Granted, answer_where, reply_of_ask}
 use Rattle.mds_rule.specs.MdsStates.{ServedFile, Replies, MdsValue, MdsStep, and_then, served, new_mds}
 use Rattle.mds_rule.specs.ServedFiles.{file_stepped}
 use Rattle.mds_rule.specs.LayoutOps.{layout_of_file, no_stateid}

@@ -21,15 +21,15 @@ use Rattle.nfs4_session.specs.declared.begin.SlotPass.{SlotPass}
 use Rattle.nfs4_session.specs.Slots.{SlotAnswer, TakesEffect}
 use Rattle.nfs4_session.specs.Requests.{request_answer, after_request, pass_of}
 use Rattle.nfs4_session.specs.Bindings.{after_binding}
-use Rattle.mds_file_calls.specs.FileOps.{put_fh_op}
-use Rattle.mds_calls.specs.declared.reply.SlotReport.TheVariants.{Taken}
-use Rattle.mds_calls.specs.MdsReplies.{slot_answer_of}
-use Rattle.mds_calls.specs.MdsCalls.{SlotCallValue, OnSlot, is_kept_reply}
-use Rattle.mds_calls.specs.MdsCompounds.{slot_ops, mds_ops}
-use Rattle.mds_operations.specs.declared.object.Object.{Object}
-use Rattle.mds_operations.specs.declared.object.Object.TheVariants.{Root, File}
-use Rattle.mds_operations.specs.Orders.{is_root, is_file, file_of, refusal}
-use Rattle.mds_operations.specs.PutFh.{object_numbered, object_at, object_of, put_fh_order}
+use Rattle.client_file_calls.specs.FileOps.{put_fh_op}
+use Rattle.client_mds_calls.specs.declared.reply.SlotReport.TheVariants.{Taken}
+use Rattle.client_mds_calls.specs.MdsReplies.{slot_answer_of}
+use Rattle.client_mds_calls.specs.MdsCalls.{SlotCallValue, OnSlot, is_kept_reply}
+use Rattle.client_mds_calls.specs.MdsCompounds.{slot_ops, mds_ops}
+use Rattle.mds_refusals.specs.declared.object.Object.{Object}
+use Rattle.mds_refusals.specs.declared.object.Object.TheVariants.{Root, File}
+use Rattle.mds_refusals.specs.Orders.{is_root, is_file, file_of, refusal}
+use Rattle.mds_refusals.specs.PutFh.{object_numbered, object_at, object_of, put_fh_order}
 use Rattle.mds_rule.specs.MdsStates.{CompoundRun, Replies, MdsValue, MdsStep, enters}
 use Rattle.mds_rule.specs.OpSteps.{OpStep, refuses, refused_as, refused_or}
 use Rattle.mds_rule.specs.FileOps.{put_object, file_or_none}

@@ -14,12 +14,12 @@ use Rattle.nfs4_compound.specs.Results.{resop4}
 use Rattle.nfs4_session.specs.Slots.{TakesEffect}
 use Rattle.nfs4_session.specs.Requests.{request_answer, pass_of}
 use Rattle.nfs4_session.specs.Bindings.{after_binding}
-use Rattle.mds_calls.specs.declared.reply.SlotReport.TheVariants.{Taken}
-use Rattle.mds_calls.specs.FittingCalls.{FitsRequest}
-use Rattle.mds_calls.specs.MdsCalls.{SlotCallValue, OnSlot, ask_on_slot}
-use Rattle.mds_calls.specs.MdsCalls as slot
-use Rattle.mds_calls.specs.MdsCompounds.{slot_ops}
-use Rattle.mds_calls.specs.MdsReplies.{reply_of_ask}
+use Rattle.client_mds_calls.specs.declared.reply.SlotReport.TheVariants.{Taken}
+use Rattle.client_mds_calls.specs.FittingCalls.{FitsRequest}
+use Rattle.client_mds_calls.specs.MdsCalls.{SlotCallValue, OnSlot, ask_on_slot}
+use Rattle.client_mds_calls.specs.MdsCalls as slot
+use Rattle.client_mds_calls.specs.MdsCompounds.{slot_ops}
+use Rattle.client_mds_calls.specs.MdsReplies.{reply_of_ask}
 use Rattle.mds_rule.specs.MdsStates.{Replies, MdsValue}
 use Rattle.mds_rule.specs.LayoutOps.{layout_of_file, no_stateid}
 use Rattle.mds_rule.specs.Compounds.{runs, sequence_result}

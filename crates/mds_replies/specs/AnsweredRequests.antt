@@ -22,15 +22,15 @@ use Rattle.table_slots.specs.TableSlots.{is_of_session}
 use Rattle.device_addr.specs.Universal.{AddressValue}
 use Rattle.same_layout.specs.SameLayout.{unseen}
 use Rattle.compound_reply.specs.Replied.{success_reply}
-use Rattle.mds_file_calls.specs.declared.grant.LayoutGrant.{LayoutGrant}
-use Rattle.mds_file_calls.specs.declared.open.OpenFile.{OpenFile}
-use Rattle.mds_file_calls.specs.declared.layout_return.FailedMirror.{FailedMirror}
-use Rattle.mds_calls.specs.declared.reply.SlotReport.{SlotReport}
-use Rattle.mds_calls.specs.declared.reply.SlotReport.TheVariants.{Taken, Uncached, Delayed, Unknown}
-use Rattle.mds_calls.specs.FittingCalls.{reports_server, FitsRequest}
-use Rattle.mds_calls.specs.MdsCalls.{SlotCallValue, MdsCallValue, OnSlot, ask_on_slot}
-use Rattle.mds_calls.specs.MdsCalls as slot
-use Rattle.mds_calls.specs.MdsReplies.{MdsAnswerValue, Granted, Returned, Refused, MdsReplyValue, reply_of_ask}
+use Rattle.client_file_calls.specs.declared.grant.LayoutGrant.{LayoutGrant}
+use Rattle.client_file_calls.specs.declared.open.OpenFile.{OpenFile}
+use Rattle.client_file_calls.specs.declared.layout_return.FailedMirror.{FailedMirror}
+use Rattle.client_mds_calls.specs.declared.reply.SlotReport.{SlotReport}
+use Rattle.client_mds_calls.specs.declared.reply.SlotReport.TheVariants.{Taken, Uncached, Delayed, Unknown}
+use Rattle.client_mds_calls.specs.FittingCalls.{reports_server, FitsRequest}
+use Rattle.client_mds_calls.specs.MdsCalls.{SlotCallValue, MdsCallValue, OnSlot, ask_on_slot}
+use Rattle.client_mds_calls.specs.MdsCalls as slot
+use Rattle.client_mds_calls.specs.MdsReplies.{MdsAnswerValue, Granted, Returned, Refused, MdsReplyValue, reply_of_ask}
 use Rattle.mds_receive.specs.MdsReceive.{IsCompound, incoming_of}
 use Rattle.nfs4_compound.specs.Compounds.{CompoundValue}
 use Rattle.mds_rule.specs.MdsStates.{ServedFile, Replies, MdsValue, served}

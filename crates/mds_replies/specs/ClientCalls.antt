@@ -4,8 +4,8 @@ use Rattle.std.specs.List.{AllByRecursion}
 use Rattle.cluster_model.specs.declared.ids.NodeId.{NodeId}
 use Rattle.nfs4_compound.specs.declared.stop.Stop.TheVariants as stop
 use Rattle.nfs4_compound.specs.Compounds.{CompoundValue}
-use Rattle.mds_calls.specs.MdsCalls.{MdsCallValue}
-use Rattle.mds_calls.specs.MdsCompounds.{mds_ops}
+use Rattle.client_mds_calls.specs.MdsCalls.{MdsCallValue}
+use Rattle.client_mds_calls.specs.MdsCompounds.{mds_ops}
 use Rattle.device_addr.specs.Universal.{AddressValue}
 use Rattle.mds_receive.specs.MdsReceive.{IsCompound, incoming_of}
 use Rattle.mds_rule.specs.MdsStates.{MdsValue}

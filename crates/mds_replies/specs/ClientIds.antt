@@ -7,9 +7,9 @@ use Rattle.cluster_model.specs.declared.ids.NodeId.{NodeId}
 use Rattle.cluster_model.specs.Members.{IsOneOf}
 use Rattle.nfs4_types.specs.declared.ids.SessionId.{SessionId}
 use Rattle.nfs4_session.specs.Clients.{client_in}
-use Rattle.mds_calls.specs.declared.ask.MdsAsk.TheVariants as ask
-use Rattle.mds_calls.specs.MdsCalls.{ExchangeId, CreateSession}
-use Rattle.mds_calls.specs.MdsReplies.{Client, Session, reply_of_ask}
+use Rattle.client_mds_calls.specs.declared.ask.MdsAsk.TheVariants as ask
+use Rattle.client_mds_calls.specs.MdsCalls.{ExchangeId, CreateSession}
+use Rattle.client_mds_calls.specs.MdsReplies.{Client, Session, reply_of_ask}
 use Rattle.device_addr.specs.Universal.{AddressValue}
 use Rattle.mds_rule.specs.MdsStates.{Replies}
 use Rattle.mds_walk.specs.MdsRuns.{MdsEvent, after_event}

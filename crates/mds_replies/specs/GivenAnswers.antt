@@ -6,7 +6,7 @@ use Rattle.cluster_model.specs.declared.ids.NodeId.{NodeId}
 use Rattle.cluster_model.specs.Members.{IsOneOf}
 use Rattle.compound_reply.specs.Replied.{success_reply}
 use Rattle.device_addr.specs.Universal.{AddressValue}
-use Rattle.mds_calls.specs.MdsCalls.{MdsCallValue, ask_of, takes_slot}
+use Rattle.client_mds_calls.specs.MdsCalls.{MdsCallValue, ask_of, takes_slot}
 use Rattle.mds_receive.specs.MdsReceive.{IsAnswered, incoming_of}
 use Rattle.mds_rule.specs.MdsStates.{Replies, Answers}
 use Rattle.mds_walk.specs.MdsRuns.{MdsEvent, Hears, after_event}

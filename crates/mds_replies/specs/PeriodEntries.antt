@@ -12,7 +12,7 @@ use Rattle.cluster_model.specs.Phases.{ids_of}
 use Rattle.cluster_laws.specs.FenceLaw.{live_in}
 use Rattle.cluster_laws.specs.Agreement.{causes_of}
 use Rattle.device_addr.specs.Universal.{AddressValue}
-use Rattle.mds_calls.specs.MdsCalls.{CreateSession}
+use Rattle.client_mds_calls.specs.MdsCalls.{CreateSession}
 use Rattle.mds_walk.specs.MdsRuns.{MdsEvent, mds_run}
 use Rattle.mds_replies.specs.ClientCalls.{IsCallFrom, AreCalls, server_after, IsEventOf}
 use Rattle.mds_replies.specs.LayoutReplies.{HasPeriod}

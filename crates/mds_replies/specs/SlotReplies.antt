@@ -7,7 +7,7 @@ use Rattle.nfs4_types.specs.declared.sequence.Sequence.{Sequence}
 use Rattle.nfs4_session.specs.Slots.{TakesEffect}
 use Rattle.nfs4_session.specs.Requests.{request_answer}
 use Rattle.nfs4_session.specs.Bindings.{after_binding}
-use Rattle.mds_calls.specs.MdsCalls.{SlotCallValue, OnSlot, is_kept_reply}
+use Rattle.client_mds_calls.specs.MdsCalls.{SlotCallValue, OnSlot, is_kept_reply}
 use Rattle.device_addr.specs.Universal.{AddressValue}
 use Rattle.mds_rule.specs.MdsStates.{new_mds}
 use Rattle.mds_walk.specs.MdsRuns.{MdsEvent}

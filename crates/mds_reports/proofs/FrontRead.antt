@@ -17,14 +17,14 @@ use Rattle.nfs4_compound.specs.Results.{resop4}
 use Rattle.nfs4_compound.specs.Compounds.{compound4_res, tag4}
 use Rattle.nfs4_compound.proofs.Statuses.{stat_fits}
 use Rattle.compound_reply.specs.Replied.{success_reply}
-use Rattle.mds_calls.specs.declared.ask.MdsAsk.TheVariants as ask
-use Rattle.mds_calls.specs.declared.reply.SlotReport.TheVariants.{Taken}
-use Rattle.mds_calls.specs.declared.reply.SlotReport.{SlotReport}
-use Rattle.mds_calls.specs.MdsCalls.{SlotCallValue, ask_on_slot}
-use Rattle.mds_calls.specs.MdsCalls as slot
-use Rattle.mds_session_calls.specs.SessionResults.{reclaim_complete_results, renew_results}
-use Rattle.mds_file_calls.specs.FileResults.{open_results, layout_get_results, device_info_results, write_results, read_results, layout_return_results}
-use Rattle.mds_calls.specs.MdsReplies.{MdsAnswerValue, Complete, Opened, Granted, Devices, Written, Bytes, Returned, Renewed, Refused, answer_if, answer_where, results_of_ask, slot_told, compound_answer, compound_reply}
+use Rattle.client_mds_calls.specs.declared.ask.MdsAsk.TheVariants as ask
+use Rattle.client_mds_calls.specs.declared.reply.SlotReport.TheVariants.{Taken}
+use Rattle.client_mds_calls.specs.declared.reply.SlotReport.{SlotReport}
+use Rattle.client_mds_calls.specs.MdsCalls.{SlotCallValue, ask_on_slot}
+use Rattle.client_mds_calls.specs.MdsCalls as slot
+use Rattle.client_session_calls.specs.SessionResults.{reclaim_complete_results, renew_results}
+use Rattle.client_file_calls.specs.FileResults.{open_results, layout_get_results, device_info_results, write_results, read_results, layout_return_results}
+use Rattle.client_mds_calls.specs.MdsReplies.{MdsAnswerValue, Complete, Opened, Granted, Devices, Written, Bytes, Returned, Renewed, Refused, answer_if, answer_where, results_of_ask, slot_told, compound_answer, compound_reply}
 use Rattle.mds_rule.specs.Compounds.{sequence_result}
 use Rattle.mds_replies.proofs.ExchangeRuns.{no_tag}
 use Rattle.mds_reports.specs.SlotReports.{AgreesWith, AgreesRead}

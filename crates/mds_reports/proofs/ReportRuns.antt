@@ -31,16 +31,16 @@ use Rattle.nfs4_session.specs.Clients.{SessionsState}
 use Rattle.nfs4_session.specs.Requests.{request_answer}
 use Rattle.nfs4_session.specs.Bindings.{after_binding}
 use Rattle.nfs4_session.specs.TableLaw.{Bind}
-use Rattle.mds_file_calls.specs.declared.open.TheConstants.{SHARE_BOTH}
-use Rattle.mds_file_calls.specs.declared.layouts.TheConstants.{MAX_COUNT}
-use Rattle.mds_file_calls.specs.FileOps.{whole_length, flex_files, reads_and_writes, put_fh_op, device_info_op, return_body}
-use Rattle.mds_session_calls.specs.declared.create_session.TheConstants.{WITH_BACK_CHANNEL}
+use Rattle.client_file_calls.specs.declared.open.TheConstants.{SHARE_BOTH}
+use Rattle.client_file_calls.specs.declared.layouts.TheConstants.{MAX_COUNT}
+use Rattle.client_file_calls.specs.FileOps.{whole_length, flex_files, reads_and_writes, put_fh_op, device_info_op, return_body}
+use Rattle.client_session_calls.specs.declared.create_session.TheConstants.{WITH_BACK_CHANNEL}
 use Rattle.nfs4_session_ops.specs.CallbackSec.{callback_sec4}
-use Rattle.mds_session_calls.specs.SessionOps.{fore_channel, back_channel, callback_program, exchange_id_op, create_session_op}
-use Rattle.mds_calls.specs.MdsCalls.{MdsCallValue, ExchangeId, CreateSession, OnSlot, SlotCallValue, ask_of, takes_slot}
-use Rattle.mds_calls.specs.MdsCalls as slot
-use Rattle.mds_calls.specs.MdsReplies.{MdsReplyValue}
-use Rattle.mds_calls.specs.MdsCompounds.{slot_ops, mds_ops}
+use Rattle.client_session_calls.specs.SessionOps.{fore_channel, back_channel, callback_program, exchange_id_op, create_session_op}
+use Rattle.client_mds_calls.specs.MdsCalls.{MdsCallValue, ExchangeId, CreateSession, OnSlot, SlotCallValue, ask_of, takes_slot}
+use Rattle.client_mds_calls.specs.MdsCalls as slot
+use Rattle.client_mds_calls.specs.MdsReplies.{MdsReplyValue}
+use Rattle.client_mds_calls.specs.MdsCompounds.{slot_ops, mds_ops}
 use Rattle.mds_receive.specs.MdsReceive.{IsCompound, incoming_of}
 use Rattle.mds_rule.specs.MdsStates.{CompoundRun, ServedFile, MdsSend, Replies, MdsValue, MdsStep, sends_none}
 use Rattle.mds_rule.specs.OpSteps.{OpStep, Goes, Ends, Waits, with_result, refuses, refused_as, stopped}

@@ -26,15 +26,15 @@ use Rattle.nfs4_compound.specs.Args.{argop4}
 use Rattle.nfs4_compound.specs.Results.{resop4}
 use Rattle.nfs4_session.specs.declared.begin.SlotPass.{SlotPass}
 use Rattle.nfs4_session.specs.Clients.{client_in}
-use Rattle.mds_operations.specs.declared.object.Object.{Object}
-use Rattle.mds_operations.specs.Orders.{Order, refusal}
-use Rattle.mds_operations.specs.PutFh.{put_fh_order, object_of}
-use Rattle.mds_operations.specs.Opens.{open_order}
-use Rattle.mds_operations.specs.Reads.{read_order}
-use Rattle.mds_operations.specs.Writes.{write_order}
-use Rattle.mds_operations.specs.LayoutReturns.{layout_return_order}
-use Rattle.mds_operations.specs.LayoutGets.{layout_get_order}
-use Rattle.mds_operations.specs.GetDeviceInfo.{device_info_order}
+use Rattle.mds_refusals.specs.declared.object.Object.{Object}
+use Rattle.mds_refusals.specs.Orders.{Order, refusal}
+use Rattle.mds_refusals.specs.PutFh.{put_fh_order, object_of}
+use Rattle.mds_refusals.specs.Opens.{open_order}
+use Rattle.mds_refusals.specs.Reads.{read_order}
+use Rattle.mds_refusals.specs.Writes.{write_order}
+use Rattle.mds_refusals.specs.LayoutReturns.{layout_return_order}
+use Rattle.mds_refusals.specs.LayoutGets.{layout_get_order}
+use Rattle.mds_refusals.specs.GetDeviceInfo.{device_info_order}
 use Rattle.mds_rule.specs.MdsStates.{CompoundRun, ServedFile, MdsValue, MdsStep, sends_none, confirmed_node, served, file_named}
 use Rattle.mds_rule.specs.OpSteps.{OpStep, Goes, Ends, Waits, with_result, refuses, by_order, refused_or}
 use Rattle.mds_rule.specs.ServedFiles.{takes_input}
@@ -42,17 +42,17 @@ use Rattle.mds_rule.specs.SessionOps.{reclaims}
 use Rattle.mds_rule.specs.FileOps.{client_of, current_file, stateid_in, named_in, may_make, can_open, name_in, put_object, runs_put_fh, get_object, opens_or_makes, creation_in, runs_open, read_length, reads_at, read_ask, runs_read, write_ask, writes_file, write_refused, runs_write}
 use Rattle.mds_rule.specs.LayoutOps.{layout_asked, layout_found, granted_in, grants_to, is_granted, is_try_later, phase_behind, later_by, layout_answer, runs_layout_get, errors_of, return_by, returns_file, file_return, device_from, device_size, device_answer, runs_get_device_info}
 use Rattle.mds_rule.specs.Compounds.{operate}
-use Rattle.mds_operations.specs.declared.layout_get.LayoutGetFound.{LayoutGetFound}
-use Rattle.mds_calls.specs.MdsCalls.{SlotCallValue}
-use Rattle.mds_calls.specs.MdsCalls as slot
-use Rattle.mds_calls.specs.MdsCompounds.{slot_ops}
+use Rattle.mds_refusals.specs.declared.layout_get.LayoutGetFound.{LayoutGetFound}
+use Rattle.client_mds_calls.specs.MdsCalls.{SlotCallValue}
+use Rattle.client_mds_calls.specs.MdsCalls as slot
+use Rattle.client_mds_calls.specs.MdsCompounds.{slot_ops}
 use Rattle.nfs4_types.specs.Handles.{file_handle_of}
 use Rattle.nfs4_types.specs.Ids.{device_id_of}
 use Rattle.nfs4_types.specs.Stateids.{stateid4_value}
 use Rattle.nfs4_file_ops.specs.OpenHow.{createhow4, openflag4}
-use Rattle.mds_file_calls.specs.declared.open.TheConstants.{SHARE_BOTH}
-use Rattle.mds_file_calls.specs.declared.layouts.TheConstants.{MAX_COUNT}
-use Rattle.mds_file_calls.specs.FileOps.{whole_length, flex_files, reads_and_writes, put_fh_op, device_info_op, return_body}
+use Rattle.client_file_calls.specs.declared.open.TheConstants.{SHARE_BOTH}
+use Rattle.client_file_calls.specs.declared.layouts.TheConstants.{MAX_COUNT}
+use Rattle.client_file_calls.specs.FileOps.{whole_length, flex_files, reads_and_writes, put_fh_op, device_info_op, return_body}
 use Rattle.mds_walk.proofs.Lists.{AllOf}
 use Rattle.mds_replies.proofs.ReplyForms.{in_order}
 use Rattle.mds_replies.proofs.SameTables.{input_same}

@@ -7,7 +7,7 @@ use Rattle.nfs4_types.specs.declared.ids.SessionId.{SessionId}
 use Rattle.nfs4_session.specs.Slots.{TakesEffect, slot_begun}
 use Rattle.nfs4_session.specs.Clients.{ClientState, SessionState, SessionsState, client_in, number_in, has_id, has_number, session_of_client, session_of, change_first, renewed_at, with_sessions}
 use Rattle.nfs4_session.specs.Requests.{change_slot, answer_by_session, request_answer, after_request}
-use Rattle.mds_calls.specs.MdsCalls.{SlotCallValue}
+use Rattle.client_mds_calls.specs.MdsCalls.{SlotCallValue}
 use Rattle.mds_replies.specs.SlotReplies.{request_of}
 
 sessions_stand : (n : ℕ) (test : SessionState → Bool) (h : SessionState → SessionState) → ((x : SessionState) → (h x).number ≡ x.number) → (xs : List SessionState) → is_some (find (has_number n) (change_first test h xs)) ≡ is_some (find (has_number n) xs)

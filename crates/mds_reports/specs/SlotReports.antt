@@ -5,10 +5,10 @@ use Rattle.cluster_model.specs.declared.ids.NodeId.{NodeId}
 use Rattle.rpc_record.specs.Replies.{RpcReply}
 use Rattle.cluster_model.specs.Members.{IsOneOf}
 use Rattle.device_addr.specs.Universal.{AddressValue}
-use Rattle.mds_calls.specs.declared.reply.SlotReport.{SlotReport}
-use Rattle.mds_calls.specs.declared.reply.SlotReport.TheVariants.{Taken, Uncached, Delayed, Unknown}
-use Rattle.mds_calls.specs.MdsCalls.{MdsCallValue, SlotCallValue, ask_of, ask_on_slot, takes_slot}
-use Rattle.mds_calls.specs.MdsReplies.{MdsAnswerValue, Refused, reply_of_ask}
+use Rattle.client_mds_calls.specs.declared.reply.SlotReport.{SlotReport}
+use Rattle.client_mds_calls.specs.declared.reply.SlotReport.TheVariants.{Taken, Uncached, Delayed, Unknown}
+use Rattle.client_mds_calls.specs.MdsCalls.{MdsCallValue, SlotCallValue, ask_of, ask_on_slot, takes_slot}
+use Rattle.client_mds_calls.specs.MdsReplies.{MdsAnswerValue, Refused, reply_of_ask}
 use Rattle.mds_rule.specs.MdsStates.{Replies}
 use Rattle.mds_walk.specs.MdsRuns.{MdsEvent, after_event}
 use Rattle.mds_replies.specs.ClientCalls.{IsCallFrom, server_after, IsEventOf}

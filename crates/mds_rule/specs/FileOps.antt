@@ -32,25 +32,25 @@ use Rattle.nfs4_session.specs.declared.begin.SlotPass.{SlotPass}
 use Rattle.nfs4_session.specs.Clients.{client_in}
 use Rattle.open_state.specs.declared.open.Open.{Open}
 use Rattle.open_state.specs.Opens.{opens_of, open_of, open_fault, fault_at, given, again, opened, closed, stateid_of}
-use Rattle.mds_operations.specs.declared.object.Object.{Object}
-use Rattle.mds_operations.specs.declared.object.Object.TheVariants.{Root, File}
-use Rattle.mds_operations.specs.declared.named.Named.{Named}
-use Rattle.mds_operations.specs.declared.attributes.Attributes.{Attributes}
-use Rattle.mds_operations.specs.declared.attributes.AskedAttributes.{AskedAttributes}
-use Rattle.mds_operations.specs.declared.open.Creation.{Creation}
-use Rattle.mds_operations.specs.declared.open.Creation.TheVariants.{NoCreate, Unchecked, Guarded}
-use Rattle.mds_operations.specs.Orders.{file_of}
-use Rattle.mds_operations.specs.Stateids.{named_by}
-use Rattle.mds_operations.specs.PutFh.{put_fh_order, object_of}
-use Rattle.mds_operations.specs.Lookup.{lookup_order}
-use Rattle.mds_operations.specs.Opens.{open_order}
-use Rattle.mds_operations.specs.Close.{close_order}
-use Rattle.mds_operations.specs.Commit.{commit_order}
-use Rattle.mds_operations.specs.Attributes.{asked_of, first_word, second_word, values_of}
-use Rattle.mds_operations.specs.Reads.{read_order}
-use Rattle.mds_operations.specs.Writes.{write_order}
-use Rattle.mds_operations.specs.declared.read.ReadAsk.{ReadAsk}
-use Rattle.mds_operations.specs.declared.write.WriteAsk.{WriteAsk}
+use Rattle.mds_refusals.specs.declared.object.Object.{Object}
+use Rattle.mds_refusals.specs.declared.object.Object.TheVariants.{Root, File}
+use Rattle.mds_refusals.specs.declared.named.Named.{Named}
+use Rattle.mds_refusals.specs.declared.attributes.Attributes.{Attributes}
+use Rattle.mds_refusals.specs.declared.attributes.AskedAttributes.{AskedAttributes}
+use Rattle.mds_refusals.specs.declared.open.Creation.{Creation}
+use Rattle.mds_refusals.specs.declared.open.Creation.TheVariants.{NoCreate, Unchecked, Guarded}
+use Rattle.mds_refusals.specs.Orders.{file_of}
+use Rattle.mds_refusals.specs.Stateids.{named_by}
+use Rattle.mds_refusals.specs.PutFh.{put_fh_order, object_of}
+use Rattle.mds_refusals.specs.Lookup.{lookup_order}
+use Rattle.mds_refusals.specs.Opens.{open_order}
+use Rattle.mds_refusals.specs.Close.{close_order}
+use Rattle.mds_refusals.specs.Commit.{commit_order}
+use Rattle.mds_refusals.specs.Attributes.{asked_of, first_word, second_word, values_of}
+use Rattle.mds_refusals.specs.Reads.{read_order}
+use Rattle.mds_refusals.specs.Writes.{write_order}
+use Rattle.mds_refusals.specs.declared.read.ReadAsk.{ReadAsk}
+use Rattle.mds_refusals.specs.declared.write.WriteAsk.{WriteAsk}
 use Rattle.mds_rule.specs.MdsStates.{CompoundRun, WaitingWrite, ServedFile, MdsValue, MdsStep, served, with_served, numbered, file_named, size_served}
 use Rattle.mds_rule.specs.OpSteps.{OpStep, Ends, Waits, with_result, at_object, gives, refuses, refused_as, by_order, refused_or}
 use Rattle.mds_rule.specs.ServedFiles.{takes_input, asks_back, has_fresh}
@@ -297,4 +297,4 @@ write_refused m c now args status =
     else refused_or m c 38 status (writes_file m c args)
 
 abbrev pub runs_write : MdsValue → CompoundRun → ℕ → Value write4_args → OpStep
-runs_write m c now args = write_refused m c now args (Rattle.mds_operations.specs.Orders.refusal (write_order c.current (write_ask m c args)))
+runs_write m c now args = write_refused m c now args (Rattle.mds_refusals.specs.Orders.refusal (write_order c.current (write_ask m c args)))

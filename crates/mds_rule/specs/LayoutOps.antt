@@ -32,12 +32,12 @@ use Rattle.nfs4_file_ops.specs.LayoutReturn.{layoutreturn4, layoutreturn_file4, 
 use Rattle.nfs4_file_ops.specs.declared.layout_get.LayoutGetArgs.{LayoutGetArgs}
 use Rattle.nfs4_compound.specs.Results.{resop4}
 use Rattle.open_state.specs.Opens.{next_seqid}
-use Rattle.mds_operations.specs.Orders.{refusal}
-use Rattle.mds_operations.specs.LayoutGets.{layout_get_order}
-use Rattle.mds_operations.specs.declared.layout_get.LayoutGetFound.{LayoutGetFound}
-use Rattle.mds_operations.specs.LayoutReturns.{layout_return_order, layout_return_all_order}
-use Rattle.mds_operations.specs.LayoutCommit.{layout_commit_order}
-use Rattle.mds_operations.specs.GetDeviceInfo.{device_info_order}
+use Rattle.mds_refusals.specs.Orders.{refusal}
+use Rattle.mds_refusals.specs.LayoutGets.{layout_get_order}
+use Rattle.mds_refusals.specs.declared.layout_get.LayoutGetFound.{LayoutGetFound}
+use Rattle.mds_refusals.specs.LayoutReturns.{layout_return_order, layout_return_all_order}
+use Rattle.mds_refusals.specs.LayoutCommit.{layout_commit_order}
+use Rattle.mds_refusals.specs.GetDeviceInfo.{device_info_order}
 use Rattle.mds_rule.specs.MdsStates.{CompoundRun, ServedFile, MdsValue, MdsStep, sends_none, confirmed_node, served, with_served}
 use Rattle.mds_rule.specs.OpSteps.{OpStep, Goes, Ends, with_result, gives, refuses, by_order, refused_or}
 use Rattle.mds_rule.specs.ServedFiles.{takes_input, asks_back}

@@ -28,7 +28,7 @@ use Rattle.nfs4_session.specs.Clients.{SessionsState, no_clients}
 use Rattle.recall.specs.declared.recall.Recall.{Recall}
 use Rattle.open_state.specs.Opens.{OpensValue}
 use Rattle.device_addr.specs.Universal.{AddressValue}
-use Rattle.mds_operations.specs.declared.object.Object.{Object}
+use Rattle.mds_refusals.specs.declared.object.Object.{Object}
 use Rattle.mds_rule.specs.declared.waiter.Waiter.{Waiter}
 
 -- ---- compounds

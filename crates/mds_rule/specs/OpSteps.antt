@@ -12,8 +12,8 @@ use Rattle.nfs4_compound.specs.declared.stop.Stop.TheVariants as stop
 use Rattle.nfs4_unserved_ops.specs.Results.{unserved_resop4, unserved_refused}
 use Rattle.nfs4_compound.specs.Joined.{behind}
 use Rattle.nfs4_compound.specs.Results.{served_resop4, resop4}
-use Rattle.mds_operations.specs.declared.object.Object.{Object}
-use Rattle.mds_operations.specs.Orders.{Order, refusal}
+use Rattle.mds_refusals.specs.declared.object.Object.{Object}
+use Rattle.mds_refusals.specs.Orders.{Order, refusal}
 use Rattle.mds_rule.specs.MdsStates.{CompoundRun, MdsValue}
 
 -- ---- results

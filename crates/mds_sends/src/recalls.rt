@@ -8,7 +8,7 @@ ghost use Rattle.mds_rule.specs.Goes.{stateid_seqid, calls_back, recall_call};
 ghost use Rattle.compound_run.specs.CompoundRuns.{HasMadeStep};
 
 use crate::send::{send_call, xid_after};
-use awaited_calls::SentCall;
+use awaited_calls::SentTo;
 use cluster_model::{FileId, Outbox};
 use ff_xdr::NoMemory;
 use mds_rule::Waiter;
@@ -37,7 +37,7 @@ fn call_back(state: &mut State, call: RecallCall, out: &mut Outbox) -> Result<()
         return Ok(());
     };
     let node = back.node;
-    let sent = SentCall::ToClient {
+    let sent = SentTo::ToClient {
         back,
         file: call.file,
         stateid: layout_stateid(call.file.0, call.cred.0, seqid),

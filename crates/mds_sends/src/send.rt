@@ -7,7 +7,7 @@ ghost use Rattle.mds_rule.specs.MdsStates.{CallsServer};
 ghost use Rattle.mds_rule.specs.Goes.{xid_after, calls_as};
 ghost use Rattle.compound_run.specs.CompoundRuns.{HasMadeStep};
 
-use awaited_calls::{AwaitedCall, SentCall};
+use awaited_calls::{AwaitedCall, SentTo};
 use cluster_model::{NodeId, Outbox};
 use ff_xdr::NoMemory;
 use mds_rule::Waiter;
@@ -29,7 +29,7 @@ pub fn send_call(
     state: &mut State,
     node: NodeId,
     caller: Waiter,
-    sent: SentCall,
+    sent: SentTo,
     out: &mut Outbox,
 ) -> Result<(), NoMemory>
     ensures { OnOk result (HasMadeStep (calls_as state.old node caller (sent_under state.old.next_xid sent)) out.old state.new out.new) }
@@ -56,6 +56,6 @@ pub fn send_to_server(state: &mut State, sent: SentByFile, out: &mut Outbox) -> 
         caller,
         call,
     } = sent;
-    let sent = SentCall::ToServer { server, uid, call };
+    let sent = SentTo::ToServer { server, uid, call };
     send_call(state, NodeId::Server(server), caller, sent, out)
 }

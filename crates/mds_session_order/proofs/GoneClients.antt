@@ -16,8 +16,8 @@ use Rattle.nfs4_session.specs.CreateSessions.{CreateSessionCase, IsDue, create_s
 use Rattle.nfs4_session.specs.Requests.{answer_by_slot, answer_by_session, request_answer}
 use Rattle.nfs4_session.specs.Bindings.{client_bound, after_binding}
 use Rattle.nfs4_session.specs.TableLaw.{TableMove, CreateSession as Creates, Bind, table_after, KeepsTable}
-use Rattle.mds_session_calls.specs.SessionOps as asked
-use Rattle.mds_calls.specs.MdsCalls.{SlotCallValue}
+use Rattle.client_session_calls.specs.SessionOps as asked
+use Rattle.client_mds_calls.specs.MdsCalls.{SlotCallValue}
 use Rattle.mds_rule.specs.MdsStates.{MdsValue, new_mds}
 use Rattle.mds_walk.specs.MdsRuns.{MdsEvent, after_event}
 use Rattle.mds_walk.proofs.Lists.{found_in, found_passes}

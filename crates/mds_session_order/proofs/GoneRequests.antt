@@ -8,7 +8,7 @@ use Rattle.nfs4_session.specs.Clients.{ClientState, SessionsState, client_in, nu
 use Rattle.nfs4_session.specs.Requests.{answer_by_session, request_answer}
 use Rattle.nfs4_session.specs.Bindings.{after_binding}
 use Rattle.nfs4_session.specs.TableLaw.{Bind, KeepsTable}
-use Rattle.mds_calls.specs.MdsCalls.{SlotCallValue}
+use Rattle.client_mds_calls.specs.MdsCalls.{SlotCallValue}
 use Rattle.mds_rule.specs.MdsStates.{MdsValue, new_mds}
 use Rattle.mds_walk.proofs.Lists.{found_in, found_passes}
 use Rattle.mds_replies.specs.ClientCalls.{server_after}

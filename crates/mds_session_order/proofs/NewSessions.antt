@@ -13,7 +13,7 @@ use Rattle.nfs4_session.specs.ExchangeIds.{new_client}
 use Rattle.nfs4_session.specs.CreateSessions.{CreateSessionCase, IsDue, IsReplay, create_session_case, after_creating}
 use Rattle.nfs4_session.specs.TableLaw.{TableMove, ExchangeId as Exchanges, table_after, KeepsTable}
 use Rattle.table_slots.specs.TableSlots.{is_of_session}
-use Rattle.mds_session_calls.specs.SessionOps as asked
+use Rattle.client_session_calls.specs.SessionOps as asked
 use Rattle.mds_rule.specs.MdsStates.{MdsValue, new_mds}
 use Rattle.mds_rule.specs.Goes.{calls_out}
 use Rattle.mds_walk.specs.MdsRuns.{MdsEvent, after_event, run_from}

@@ -6,7 +6,7 @@ ghost use Rattle.compound_run.specs.CompoundRuns.{HasRoomForResults, HasOperated
 
 use compound_run::{OpEnd, Run};
 use ff_xdr::NoMemory;
-use mds_operations::try_commit;
+use mds_refusals::try_commit;
 use mds_state::State;
 use nfs4_compound::OpRes;
 use nfs4_types::OpResult;

@@ -11,7 +11,7 @@ use cluster_model::{FileId, PIECE_SIZE};
 use compound_run::{OpEnd, Run};
 use ff_xdr::NoMemory;
 use mds_names::{named_in, phase_now};
-use mds_operations::{ReadAsk, try_read};
+use mds_refusals::{ReadAsk, try_read};
 use mds_state::State;
 use nfs4_compound::nfs4_file_ops::Read4Args;
 use nfs4_types::Stat4;

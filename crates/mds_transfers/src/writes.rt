@@ -17,7 +17,7 @@ use compound_run::{OpEnd, Run};
 use ff_xdr::NoMemory;
 use mds_file::FileInput;
 use mds_names::{current_file, named_in, phase_now, uids_left};
-use mds_operations::{WriteAsk, try_write};
+use mds_refusals::{WriteAsk, try_write};
 use mds_state::{State, ask_back, take_input};
 use nfs4_compound::OpRes;
 use nfs4_compound::nfs4_file_ops::{StableHow4, Write4Args, Write4Ok};

@@ -33,22 +33,22 @@ use Rattle.nfs4_file_ops.specs.LayoutGet.{layoutget4_args}
 use Rattle.nfs4_file_ops.specs.LayoutReturn.{layoutreturn4, layoutreturn_file4, layoutreturn4_args}
 use Rattle.open_state.specs.declared.open.Open.{Open}
 use Rattle.open_state.specs.Opens.{open_of, opened, closed}
-use Rattle.mds_operations.specs.declared.object.Object.{Object}
-use Rattle.mds_operations.specs.declared.object.Object.TheVariants.{File}
-use Rattle.mds_operations.specs.declared.open.Creation.{Creation}
-use Rattle.mds_operations.specs.declared.open.OpenFound.{OpenFound}
-use Rattle.mds_operations.specs.Opens.{open_order, has_room}
-use Rattle.mds_operations.specs.Orders.{Order, refusal}
+use Rattle.mds_refusals.specs.declared.object.Object.{Object}
+use Rattle.mds_refusals.specs.declared.object.Object.TheVariants.{File}
+use Rattle.mds_refusals.specs.declared.open.Creation.{Creation}
+use Rattle.mds_refusals.specs.declared.open.OpenFound.{OpenFound}
+use Rattle.mds_refusals.specs.Opens.{open_order, has_room}
+use Rattle.mds_refusals.specs.Orders.{Order, refusal}
 use Rattle.nfs4_compound.specs.Results.{resop4}
-use Rattle.mds_operations.specs.Lookup.{lookup_order}
-use Rattle.mds_operations.specs.Commit.{commit_order}
-use Rattle.mds_operations.specs.LayoutReturns.{layout_return_all_order}
-use Rattle.mds_operations.specs.LayoutCommit.{layout_commit_order}
-use Rattle.mds_operations.specs.Writes.{has_bytes, write_order}
-use Rattle.mds_operations.specs.declared.write.WriteAsk.{WriteAsk}
-use Rattle.mds_operations.specs.LayoutGets.{layout_get_order}
-use Rattle.mds_operations.specs.GetDeviceInfo.{device_info_order}
-use Rattle.mds_operations.specs.PutFh.{put_fh_order, object_of}
+use Rattle.mds_refusals.specs.Lookup.{lookup_order}
+use Rattle.mds_refusals.specs.Commit.{commit_order}
+use Rattle.mds_refusals.specs.LayoutReturns.{layout_return_all_order}
+use Rattle.mds_refusals.specs.LayoutCommit.{layout_commit_order}
+use Rattle.mds_refusals.specs.Writes.{has_bytes, write_order}
+use Rattle.mds_refusals.specs.declared.write.WriteAsk.{WriteAsk}
+use Rattle.mds_refusals.specs.LayoutGets.{layout_get_order}
+use Rattle.mds_refusals.specs.GetDeviceInfo.{device_info_order}
+use Rattle.mds_refusals.specs.PutFh.{put_fh_order, object_of}
 use Rattle.mds_rule.specs.MdsStates.{CompoundRun, ServedFile, MdsSend, MdsValue, MdsStep, sends_none, confirmed_node, served, with_served, numbered, file_named}
 use Rattle.mds_rule.specs.OpSteps.{OpStep, with_result, at_object, gives, refused_or}
 use Rattle.mds_rule.specs.ServedFiles.{has_fresh, file_stepped, input_at, asks_back, ends_periods}
@@ -101,7 +101,7 @@ let_through c ask some so =
     let within : nat_lt MAX_FILE (ask.offset + ask.length) ≡ false = both_off (has_bytes ask) (nat_lt MAX_FILE (ask.offset + ask.length)) has order.1.1.1.1.0 in
     (ltb-false PIECE_SIZE ask.length few, ltb-false MAX_FILE (ask.offset + ask.length) within)
 
-free_only : (p : LayoutPhase) → Rattle.mds_operations.specs.Writes.is_free (phase_of p) ≡ true → p ≡ Free
+free_only : (p : LayoutPhase) → Rattle.mds_refusals.specs.Writes.is_free (phase_of p) ≡ true → p ≡ Free
 free_only Making is = absurd cc
 free_only Free is = refl
 free_only (Held holder recalled) is = absurd cc
@@ -121,10 +121,10 @@ let_begin m c s ask at bytes offset count uids free some so =
     let limits : (ask.length ≤ PIECE_SIZE) × (ask.offset + ask.length ≤ MAX_FILE) = let_through c ask many so in
     let few : ask.length ≤ PIECE_SIZE = limits.0 in
     let within : ask.offset + ask.length ≤ MAX_FILE = limits.1 in
-    let is_so : not (Rattle.mds_operations.specs.Writes.is_free ask.phase) ≡ false = both_off (has_bytes ask) (not (Rattle.mds_operations.specs.Writes.is_free ask.phase)) has order.1.1.1.1.1.0 in
+    let is_so : not (Rattle.mds_refusals.specs.Writes.is_free ask.phase) ≡ false = both_off (has_bytes ask) (not (Rattle.mds_refusals.specs.Writes.is_free ask.phase)) has order.1.1.1.1.1.0 in
     let left : nat_lt ask.uids_left SPARE_UIDS ≡ false = both_off (has_bytes ask) (nat_lt ask.uids_left SPARE_UIDS) has order.1.1.1.1.1.1.0 in
     record {
-      free = free_only s.file.layout.phase (ap Rattle.mds_operations.specs.Writes.is_free (sym free) ∙ was_not (Rattle.mds_operations.specs.Writes.is_free ask.phase) is_so);
+      free = free_only s.file.layout.phase (ap Rattle.mds_refusals.specs.Writes.is_free (sym free) ∙ was_not (Rattle.mds_refusals.specs.Writes.is_free ask.phase) is_so);
       unspent = still_left m.fresh.uid (ap (λ (n : ℕ). nat_lt n SPARE_UIDS) (sym uids) ∙ left);
       some = some;
       few = subst (λ (n : ℕ). n ≤ PIECE_SIZE) count few;

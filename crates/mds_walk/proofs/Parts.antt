@@ -48,7 +48,7 @@ use Rattle.cluster_model.specs.Phases.{holder_of}
 use Rattle.layout_report.specs.Reports.{report_of}
 use Rattle.ff_layout.specs.IoError.{ff_ioerr4}
 use Rattle.ff_xdr.specs.Form.{Value, arm_of}
-use Rattle.mds_parts.specs.MdsResults.{in_arm}
+use Rattle.client_compounds.specs.MdsResults.{in_arm}
 use Rattle.nfs4_compound.specs.Args.{argop4}
 use Rattle.compound_reply.specs.Replied.{success_reply}
 use Rattle.nfs4_session.specs.declared.begin.SlotPass.{SlotPass}

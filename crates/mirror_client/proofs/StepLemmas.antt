@@ -8,8 +8,8 @@ use Rattle.client_callbacks.specs.Callbacks.{CbReply}
 use Rattle.client_callbacks.specs.CallbackSteps.{HasCalledBack}
 use Rattle.std.proofs.lemmas.Bool.{eq-eqb}
 use Rattle.std.proofs.lemmas.List.{map-append}
-use Rattle.mds_calls.specs.declared.ask.MdsAsk.{MdsAsk}
-use Rattle.mds_calls.specs.MdsReplies.{MdsReplyValue}
+use Rattle.client_mds_calls.specs.declared.ask.MdsAsk.{MdsAsk}
+use Rattle.client_mds_calls.specs.MdsReplies.{MdsReplyValue}
 use Rattle.client_state.specs.declared.asked.Asked.{Asked}
 use Rattle.client_answers.specs.ClientAnswers.{mds_answered}
 use Rattle.mirror_client.specs.ClientRule.{unless_left, mds_replied, found_call}

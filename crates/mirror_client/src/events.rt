@@ -12,10 +12,10 @@ use crate::outstanding::is_outstanding_at;
 use crate::replies::mds_replied;
 use client_answers::{ds_answered, ds_timed_out};
 use client_calls::{ask_mds, end_event, may_ask};
+use client_mds_calls::MdsAsk;
 use client_state::{LayoutStage, State, Tie, UserRequest};
 use cluster_model::{Entry, NodeId, Outbox};
 use ff_xdr::NoMemory;
-use mds_calls::MdsAsk;
 use rpc_record::Reply;
 
 /// After so many seconds a lease is renewed (RFC 8881, section 8.3).

@@ -2,7 +2,7 @@
 
 ghost use Rattle.std.specs.Prelude.{OnOk};
 ghost use Rattle.rpc_record.specs.Replies.{rpc_reply};
-ghost use Rattle.mds_calls.specs.MdsReplies.{reply_of_ask};
+ghost use Rattle.client_mds_calls.specs.MdsReplies.{reply_of_ask};
 ghost use Rattle.mirror_client.specs.ClientRule.{mds_replied};
 ghost use Rattle.client_state.specs.QueueSteps.{HasStepped};
 

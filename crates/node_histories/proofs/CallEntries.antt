@@ -2,8 +2,8 @@
 use Rattle.std.proofs.Common.{Option, Some, None}
 use Rattle.std.specs.Prelude.{◌==◌}
 use Rattle.mirror_writer.specs.Writers.{WriterSends, next_sent}
-use Rattle.mds_calls.specs.declared.ask.MdsAsk.{MdsAsk}
-use Rattle.mds_calls.specs.MdsCalls.{MdsCallValue}
+use Rattle.client_mds_calls.specs.declared.ask.MdsAsk.{MdsAsk}
+use Rattle.client_mds_calls.specs.MdsCalls.{MdsCallValue}
 use Rattle.client_state.specs.declared.layout.Layout.{Layout}
 use Rattle.client_state.specs.ClientStates.{ClientValue}
 use Rattle.client_state.specs.ClientQueue.{run_queue}

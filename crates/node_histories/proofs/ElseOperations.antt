@@ -15,20 +15,20 @@ use Rattle.device_addr.specs.Universal.{AddressValue}
 use Rattle.ff_layout.specs.IoError.{ff_ioerr4}
 use Rattle.file_rule.specs.FilePhases.{OwnWrite, AsksLayout, Returns}
 use Rattle.layout_report.specs.Reports.{report_of}
-use Rattle.mds_operations.specs.Orders.{refusal}
-use Rattle.mds_operations.specs.Lookup.{lookup_order}
-use Rattle.mds_operations.specs.Opens.{open_order}
-use Rattle.mds_operations.specs.PutFh.{put_fh_order, object_of}
-use Rattle.mds_operations.specs.Commit.{commit_order}
-use Rattle.mds_operations.specs.GetDeviceInfo.{device_info_order}
-use Rattle.mds_operations.specs.LayoutCommit.{layout_commit_order}
-use Rattle.mds_operations.specs.LayoutGets.{layout_get_order}
-use Rattle.mds_operations.specs.LayoutReturns.{layout_return_all_order}
-use Rattle.mds_operations.specs.Writes.{write_order}
-use Rattle.mds_operations.specs.declared.layout_get.LayoutGetFound.{LayoutGetFound}
-use Rattle.mds_operations.specs.declared.object.Object.{Object}
-use Rattle.mds_operations.specs.declared.object.Object.TheVariants.{File}
-use Rattle.mds_operations.specs.declared.open.Creation.{Creation}
+use Rattle.mds_refusals.specs.Orders.{refusal}
+use Rattle.mds_refusals.specs.Lookup.{lookup_order}
+use Rattle.mds_refusals.specs.Opens.{open_order}
+use Rattle.mds_refusals.specs.PutFh.{put_fh_order, object_of}
+use Rattle.mds_refusals.specs.Commit.{commit_order}
+use Rattle.mds_refusals.specs.GetDeviceInfo.{device_info_order}
+use Rattle.mds_refusals.specs.LayoutCommit.{layout_commit_order}
+use Rattle.mds_refusals.specs.LayoutGets.{layout_get_order}
+use Rattle.mds_refusals.specs.LayoutReturns.{layout_return_all_order}
+use Rattle.mds_refusals.specs.Writes.{write_order}
+use Rattle.mds_refusals.specs.declared.layout_get.LayoutGetFound.{LayoutGetFound}
+use Rattle.mds_refusals.specs.declared.object.Object.{Object}
+use Rattle.mds_refusals.specs.declared.object.Object.TheVariants.{File}
+use Rattle.mds_refusals.specs.declared.open.Creation.{Creation}
 use Rattle.nfs4_types.specs.declared.ids.SessionId.{SessionId}
 use Rattle.nfs4_types.specs.declared.status.Stat4.{Stat4}
 use Rattle.nfs4_types.specs.declared.status.Stat4.TheVariants as stat

@@ -1,8 +1,10 @@
 //! What a metadata server's reply comes to as words.
 
 use crate::addresses::put_place;
+use client_mds_calls::{
+    LayoutGrant, MdsAnswer, MdsAsk, MdsReply, OpenFile, SlotReport, mds_reply_of,
+};
 use device_addr::NetAddr;
-use mds_calls::{LayoutGrant, MdsAnswer, MdsAsk, MdsReply, OpenFile, SlotReport, mds_reply_of};
 use nfs4_types::Stateid;
 use row_words::{Answer, RowFault};
 use rpc_record::Reply;

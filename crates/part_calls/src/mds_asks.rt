@@ -1,6 +1,6 @@
 //! What was asked of a metadata server as words.
 
-use mds_calls::MdsAsk;
+use client_mds_calls::MdsAsk;
 use row_words::{RowFault, Words};
 
 /// The kind of a call, with what its answer is held against.

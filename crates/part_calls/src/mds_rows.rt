@@ -3,8 +3,8 @@
 use crate::mds_answers::put_mds_reply;
 use crate::mds_asks::mds_ask;
 use crate::mds_words::{Lent, mds_call};
+use client_mds_calls::{fits, put_mds_call};
 use ff_xdr::Out;
-use mds_calls::{fits, put_mds_call};
 use row_words::{Answer, Part, RowFault, Words};
 use rpc_record::Reply;
 

@@ -1,7 +1,7 @@
 //! The calls of a client to its metadata server as words.
 
+use client_mds_calls::{FailedMirror, MdsCall, OpenFile, SlotCall};
 use cluster_model::FileId;
-use mds_calls::{FailedMirror, MdsCall, OpenFile, SlotCall};
 use nfs4_types::{SessionId, Stateid};
 use row_words::{RowFault, Words, number32};
 use std::alloc::Global;

@@ -5,7 +5,7 @@
 use crate::said::{current, named, put_file, put_refusal};
 use cluster_model::Phase;
 use layout_state::GrantFault;
-use mds_operations::{
+use mds_refusals::{
     DeviceInfo, FileReturn, LayoutGetFound, try_get_device_info, try_layout_commit, try_layout_get,
     try_layout_return, try_layout_return_all,
 };

@@ -9,7 +9,7 @@ use crate::said::{
 };
 use cluster_model::FileId;
 use ff_xdr::Out;
-use mds_operations::{
+use mds_refusals::{
     AskedAttributes, Attributes, Creation, OpenFound, OpenStep, ReadAsk, WriteAsk, current_object,
     state_named, try_close, try_commit, try_lookup, try_open, try_put_fh, try_read, try_write,
 };

@@ -1,7 +1,7 @@
 //! What an operation is told, and what it answers, in words.
 
 use cluster_model::{Cred, FileId, Phase};
-use mds_operations::{Named, Object};
+use mds_refusals::{Named, Object};
 use nfs4_types::{Stat4, Stateid};
 use row_words::{Answer, RowFault, Words, number32};
 

@@ -7,9 +7,9 @@ use Rattle.std.proofs.lemmas.Nat.{be_bytes_8}
 use Rattle.ff_xdr.specs.Form.{long}
 use Rattle.cluster_model.specs.declared.ids.FileId.{FileId}
 use Rattle.nfs4_types.specs.Handles.{file_handle_of, file_number_of}
-use Rattle.mds_operations.specs.declared.object.Object.{Object}
-use Rattle.mds_operations.specs.declared.object.Object.TheVariants.{Root, File}
-use Rattle.mds_operations.specs.PutFh.{object_numbered, object_at, object_of}
+use Rattle.mds_refusals.specs.declared.object.Object.{Object}
+use Rattle.mds_refusals.specs.declared.object.Object.TheVariants.{Root, File}
+use Rattle.mds_refusals.specs.PutFh.{object_numbered, object_at, object_of}
 
 byte_small : (n i : ℕ) → get_or (to_be_bytes w64 n) i 0 < 256
 byte_small n zero = omega arith

@@ -17,7 +17,7 @@ use Rattle.cluster_model.specs.declared.targets.SwappedIn.{SwappedIn}
 use Rattle.cluster_model.specs.Phases.{ids_of, phase_of, unreported, left_entries, reported_cause, recalled, phase_without, swapped_entries}
 use Rattle.file_rule.specs.MdsFiles.{Activity, Idle, Makes, Fences, Settles, Copies, MdsFile, FileStep, begun_by}
 use Rattle.file_rule.specs.FilePhases.{FileInput, Returns, OwnEnds, ticked}
-use Rattle.mds_operations.specs.Reads.{is_made}
+use Rattle.mds_refusals.specs.Reads.{is_made}
 use Rattle.mds_rule.specs.ServedFiles.{is_swap}
 use Rattle.cluster_laws.specs.FenceLaw.{changed_live, live_after, live_by}
 use Rattle.cluster_laws.proofs.Invariant.{live_of}

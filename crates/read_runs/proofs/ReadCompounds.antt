@@ -22,11 +22,11 @@ use Rattle.nfs4_compound.specs.Compounds.{CompoundValue}
 use Rattle.nfs4_session.specs.Slots.{SlotAnswer, TakesEffect, Repeats, Refuses}
 use Rattle.nfs4_session.specs.Requests.{request_answer, after_request}
 use Rattle.nfs4_session.specs.Bindings.{after_binding}
-use Rattle.mds_operations.specs.declared.object.Object.{Object}
-use Rattle.mds_operations.specs.declared.object.Object.TheVariants.{Root, File}
-use Rattle.mds_operations.specs.Orders.{Order, refusal, file_of}
-use Rattle.mds_operations.specs.PutFh.{put_fh_order, object_of}
-use Rattle.mds_operations.specs.Reads.{is_made, read_order}
+use Rattle.mds_refusals.specs.declared.object.Object.{Object}
+use Rattle.mds_refusals.specs.declared.object.Object.TheVariants.{Root, File}
+use Rattle.mds_refusals.specs.Orders.{Order, refusal, file_of}
+use Rattle.mds_refusals.specs.PutFh.{put_fh_order, object_of}
+use Rattle.mds_refusals.specs.Reads.{is_made, read_order}
 use Rattle.mds_receive.specs.MdsReceive.{IsCompound, incoming_of}
 use Rattle.mds_rule.specs.MdsStates.{CompoundRun, WaitingRead, ServedFile, MdsValue, MdsStep, served, with_served}
 use Rattle.mds_rule.specs.OpSteps.{OpStep, with_result, at_object, refuses, refused_as, refused_or}

@@ -13,8 +13,8 @@ use Rattle.recall.specs.declared.recall.RecallStage.{RecallStage}
 use Rattle.recall.specs.declared.recall.RecallStage.TheVariants.{Waits, Out, Later, Agreed}
 use Rattle.recall.specs.declared.recall.RecallCall.{RecallCall}
 use Rattle.recall.specs.declared.recall.Outcome.TheVariants as outcome
-use Rattle.recall.specs.declared.entry.Entry.{Entry}
-use Rattle.recall.specs.declared.entry.Ended.TheVariants.{Grant}
+use Rattle.recall.specs.declared.kept_recall.KeptRecall.{KeptRecall}
+use Rattle.recall.specs.declared.kept_recall.Ended.TheVariants.{Grant}
 use Rattle.recall.specs.Recalls.{is_out, is_out_as, may_go, has_one_out, waits, at_stage, at_tick, grant_of, has_expired, RecallSends, sent_at, sent_from, next_sent, out_at, RecallsAfter, answered, late, step_at, step_from, after_reply, after_timeout, RecallsTick, without, without_found, told_found, after_tick}
 use Rattle.recall.specs.Calls.{SendsRecall, WaitsFor}
 use Rattle.recall.specs.Entries.{grant_in, recalls_of, is_out_to, is_ready, held_as, goes_on, IsRecallTable}
@@ -27,15 +27,15 @@ use Rattle.recall.proofs.Statuses.{StatusKind, Agrees, HasNone, Else, kind_of}
 abbrev pub sent_to : RecallCall → List Recall → Option RecallSends
 sent_to call recalls = Some (record { recalls = recalls; call = call })
 
-pub sends_none : (es : List Entry) (recalls : List Recall) (xid : ℕ) → IsRecallTable es → recalls_of es ≡ recalls → position is_ready es ≡ None → next_sent recalls xid ≡ None
+pub sends_none : (es : List KeptRecall) (recalls : List Recall) (xid : ℕ) → IsRecallTable es → recalls_of es ≡ recalls → position is_ready es ≡ None → next_sent recalls xid ≡ None
 sends_none es recalls xid stands seen none = subst (λ (rs : List Recall). next_sent rs xid ≡ None) seen (ap (sent_from (recalls_of es) xid) (sym (ready_in es stands) ∙ none))
 
 pub sends_nothing : (recalls : List Recall) (xid : ℕ) (result : Option RecallCall) → result ≡ None → next_sent recalls xid ≡ None → SendsRecall recalls xid result recalls
 sends_nothing recalls xid result is none = subst (λ (o : Option RecallCall). SendsRecall recalls xid o recalls) (sym is) (none, refl)
 
-module _ (es : List Entry) (stands : IsRecallTable es) (place : ℕ) (e : Entry) (xid : ℕ) (found : position is_ready es ≡ Some place) (is : e ≡ get_or es place e) where
+module _ (es : List KeptRecall) (stands : IsRecallTable es) (place : ℕ) (e : KeptRecall) (xid : ℕ) (found : position is_ready es ≡ Some place) (is : e ≡ get_or es place e) where
   sent_at_place : slice_get (recalls_of es) place ≡ Some e.recall
-  sent_at_place = at_place es place e (first_there is_ready es place found).within ∙ ap (λ (x : Entry). Some x.recall) (sym is)
+  sent_at_place = at_place es place e (first_there is_ready es place found).within ∙ ap (λ (x : KeptRecall). Some x.recall) (sym is)
 
   place_may : position (may_go (recalls_of es)) (recalls_of es) ≡ Some place
   place_may = sym (ready_in es stands) ∙ found
@@ -51,13 +51,13 @@ module _ (es : List Entry) (stands : IsRecallTable es) (place : ℕ) (e : Entry)
       let parts = and_parts (waits e.recall.stage) (not (has_one_out (recalls_of es) e.recall.client)) may in
       none_found (is_out_to e.recall.client) (recalls_of es) (not-true (has_one_out (recalls_of es) e.recall.client) parts.1)
 
-  abbrev new_entries : List Entry
+  abbrev new_entries : List KeptRecall
   new_entries = map (held_as e.recall.client (Some (grant_of e.recall))) (set es place (record { recall = at_stage (Out xid 0) e.recall; held_by = Some (grant_of e.recall) }))
 
-  pub sends_stands : (new : List Entry) → new ≡ new_entries → IsRecallTable new
-  sends_stands new does = subst (λ (l : List Entry). IsRecallTable l) (sym does) (sent_stands es stands place e.recall sent_at_place (Out xid 0) refl none_out)
+  pub sends_stands : (new : List KeptRecall) → new ≡ new_entries → IsRecallTable new
+  sends_stands new does = subst (λ (l : List KeptRecall). IsRecallTable l) (sym does) (sent_stands es stands place e.recall sent_at_place (Out xid 0) refl none_out)
 
-  pub sends_it : (recalls : List Recall) (new : List Entry) → recalls_of es ≡ recalls → new ≡ new_entries
+  pub sends_it : (recalls : List Recall) (new : List KeptRecall) → recalls_of es ≡ recalls → new ≡ new_entries
       → next_sent recalls xid ≡ Some (record { recalls = recalls_of new; call = record { file = e.recall.file; cred = e.recall.cred; client = e.recall.client; xid = xid } })
   sends_it recalls new seen does =
       let call : RecallCall = record { file = e.recall.file; cred = e.recall.cred; client = e.recall.client; xid = xid } in
@@ -91,20 +91,20 @@ is_out_by xid Waits is = absurd (both_ways false refl is)
 is_out_by xid Later is = absurd (both_ways false refl is)
 is_out_by xid Agreed is = absurd (both_ways false refl is)
 
-pub stranger_at : (es : List Entry) (recalls : List Recall) (xid : ℕ) (step : ℕ → Recall → RecallsAfter) → recalls_of es ≡ recalls → position (λ e. is_out_as xid e.recall.stage) es ≡ None
+pub stranger_at : (es : List KeptRecall) (recalls : List Recall) (xid : ℕ) (step : ℕ → Recall → RecallsAfter) → recalls_of es ≡ recalls → position (λ e. is_out_as xid e.recall.stage) es ≡ None
     → record { recalls = recalls; outcome = outcome.Stranger } ≡ step_from recalls step (out_at recalls xid)
 stranger_at es recalls xid step seen none =
     subst (λ (rs : List Recall). record { recalls = rs; outcome = outcome.Stranger } ≡ step_from rs step (out_at rs xid)) seen
     (sym (ap (step_from (recalls_of es) step) (sym (position_in (λ r. is_out_as xid r.stage) es) ∙ none)))
 
-pub within_at : (es : List Entry) (xid place : ℕ) → position (λ e. is_out_as xid e.recall.stage) es ≡ Some place → place < length es
+pub within_at : (es : List KeptRecall) (xid place : ℕ) → position (λ e. is_out_as xid e.recall.stage) es ≡ Some place → place < length es
 within_at es xid place found = (first_there (λ e. is_out_as xid e.recall.stage) es place found).within
 
-pub out_there : (es : List Entry) (recalls : List Recall) (xid place : ℕ) (e : Entry) → recalls_of es ≡ recalls → position (λ e. is_out_as xid e.recall.stage) es ≡ Some place → e ≡ get_or es place e
+pub out_there : (es : List KeptRecall) (recalls : List Recall) (xid place : ℕ) (e : KeptRecall) → recalls_of es ≡ recalls → position (λ e. is_out_as xid e.recall.stage) es ≡ Some place → e ≡ get_or es place e
     → IsOutAt recalls xid place e.recall
 out_there es recalls xid place e seen found is =
     let here : out_at (recalls_of es) xid ≡ Some place = sym (position_in (λ r. is_out_as xid r.stage) es) ∙ found in
-    let at : slice_get (recalls_of es) place ≡ Some e.recall = at_place es place e (within_at es xid place found) ∙ ap (λ (x : Entry). Some x.recall) (sym is) in
+    let at : slice_get (recalls_of es) place ≡ Some e.recall = at_place es place e (within_at es xid place found) ∙ ap (λ (x : KeptRecall). Some x.recall) (sym is) in
     let first = first_there (λ (r : Recall). is_out_as xid r.stage) (recalls_of es) place here in
     let same : first.item ≡ e.recall = same_Some first.item e.recall (sym first.at ∙ at) in
     let out : is_out_as xid e.recall.stage ≡ true = subst (λ (r : Recall). is_out_as xid r.stage ≡ true) same (passes (λ (r : Recall). is_out_as xid r.stage) (recalls_of es) first.item first.finds) in
@@ -163,7 +163,7 @@ module _ (recalls : List Recall) (xid place : ℕ) (r : Recall) (there : IsOutAt
 abbrev pub tick_to : List Recall → Option (FileId × Cred) → RecallsTick
 tick_to recalls expired = record { recalls = recalls; expired = expired }
 
-pub told_in : (now : ℕ) (es : List Entry) (recalls : List Recall) → recalls_of es ≡ recalls → option_map grant_in (find (λ e. has_expired now e.recall) es) ≡ told_found (find (has_expired now) recalls)
+pub told_in : (now : ℕ) (es : List KeptRecall) (recalls : List Recall) → recalls_of es ≡ recalls → option_map grant_in (find (λ e. has_expired now e.recall) es) ≡ told_found (find (has_expired now) recalls)
 told_in now es recalls seen = found_in (has_expired now) es ∙ ap (λ (rs : List Recall). option_map grant_of (find (has_expired now) rs)) seen ∙ by_found (find (has_expired now) recalls)
   where
     by_found : (o : Option Recall) → option_map grant_of o ≡ told_found o

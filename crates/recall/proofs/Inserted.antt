@@ -4,7 +4,7 @@ use Rattle.std.specs.Prelude.{insert}
 use Rattle.std.specs.List.{find, position_or_len, AllByRecursion}
 use Rattle.std.proofs.lemmas.Option.{none-some}
 use Rattle.recall.specs.declared.recall.Recall.{Recall}
-use Rattle.recall.specs.declared.entry.Entry.{Entry}
+use Rattle.recall.specs.declared.kept_recall.KeptRecall.{KeptRecall}
 use Rattle.recall.specs.Recalls.{is_before, with_recall}
 use Rattle.recall.specs.Entries.{recalls_of, IsAtMostOne}
 use Rattle.recall.proofs.Firsts.{find_here, find_behind}
@@ -44,7 +44,7 @@ module _ (test : Recall → Bool) (r : Recall) where
       by_case false rest = (λ first. not_new first (test r) refl, rest)
 
 -- the code puts it at a place
-pub inserted : (e : Entry) (es : List Entry) → recalls_of (insert es (position_or_len (λ x. is_before e.recall x.recall) es) e) ≡ with_recall e.recall (recalls_of es)
+pub inserted : (e : KeptRecall) (es : List KeptRecall) → recalls_of (insert es (position_or_len (λ x. is_before e.recall x.recall) es) e) ≡ with_recall e.recall (recalls_of es)
 inserted e [] = refl
 inserted e (x ∷ es) = by_case (is_before e.recall x.recall) (inserted e es)
   where
@@ -55,7 +55,7 @@ inserted e (x ∷ es) = by_case (is_before e.recall x.recall) (inserted e es)
         let next : 1 + position_or_len (λ x. is_before e.recall x.recall) es ≡ suc (position_or_len (λ x. is_before e.recall x.recall) es) = omega arith in
         ap (λ k. recalls_of (insert (x ∷ es) k e)) next ∙ ap (λ rs. x.recall ∷ rs) rest
 
-pub each_inserted : (P : Entry → Type 0) (e : Entry) (es : List Entry) (place : ℕ) → AllByRecursion P es → P e → AllByRecursion P (insert es place e)
+pub each_inserted : (P : KeptRecall → Type 0) (e : KeptRecall) (es : List KeptRecall) (place : ℕ) → AllByRecursion P es → P e → AllByRecursion P (insert es place e)
 each_inserted P e es zero each this = (this, each)
 each_inserted P e [] (suc place) each this = (this, tt)
 each_inserted P e (x ∷ es) (suc place) each this = (each.0, each_inserted P e es place each.1 this)

@@ -8,7 +8,7 @@ use Rattle.cluster_model.specs.declared.ids.Cred.{Cred}
 use Rattle.recall.specs.declared.recall.Recall.{Recall}
 use Rattle.recall.specs.declared.recall.RecallStage.{RecallStage}
 use Rattle.recall.specs.declared.recall.RecallStage.TheVariants.{Waits, Out, Later, Agreed}
-use Rattle.recall.specs.declared.entry.Ended.{Ended}
+use Rattle.recall.specs.declared.kept_recall.Ended.{Ended}
 use Rattle.recall.specs.Recalls.{at_stage, is_out, waits, stage_at_tick, at_tick, grant_of, has_one_out, with_recall}
 use Rattle.recall.specs.Entries.{is_out_to, holder, is_free, is_ended, goes_on, unless_ended, IsAtMostOne}
 use Rattle.recall.proofs.Firsts.{kept_if, any_found, find_kept, one_kept, find_map, one_map, set_other, set_gone, set_found, set_image, one_set}

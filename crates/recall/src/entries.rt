@@ -5,16 +5,16 @@ ghost use Rattle.std.specs.List.{list_any, position_or_len};
 ghost use Rattle.recall.specs.Recalls.{is_out_as, is_of, is_before, has_expired};
 ghost use Rattle.recall.specs.Entries.{grant_in, is_out_to, is_ready, held_as, released, entries_after, ticked};
 
-use crate::entry::{
-    Ended, Entry, has_expired, held_as, is_before, is_ended, is_of, is_out_as, is_out_to, is_ready,
-    released, ticked,
+use crate::kept_recall::{
+    Ended, KeptRecall, has_expired, held_as, is_before, is_ended, is_of, is_out_as, is_out_to,
+    is_ready, released, ticked,
 };
 use crate::recall::Recall;
 use cluster_model::{Cred, FileId};
 use ff_xdr::NoMemory;
 
 /// The place of the first whose callback may go out.
-pub fn ready(entries: &[Entry]) -> Option<usize>
+pub fn ready(entries: &[KeptRecall]) -> Option<usize>
     ensures { result ≡ position is_ready entries.now }
 {
     for (place, entry) in entries.iter().enumerate() {
@@ -26,7 +26,7 @@ pub fn ready(entries: &[Entry]) -> Option<usize>
 }
 
 /// The place of the first whose callback is outstanding under this number.
-pub fn outstanding(xid: u32, entries: &[Entry]) -> Option<usize>
+pub fn outstanding(xid: u32, entries: &[KeptRecall]) -> Option<usize>
     ensures { result ≡ position (λ e. is_out_as xid e.recall.stage) entries.now }
 {
     for (place, entry) in entries.iter().enumerate() {
@@ -38,7 +38,7 @@ pub fn outstanding(xid: u32, entries: &[Entry]) -> Option<usize>
 }
 
 /// A recall of this grant is under way.
-pub fn is_under_way(file: FileId, cred: Cred, entries: &[Entry]) -> bool
+pub fn is_under_way(file: FileId, cred: Cred, entries: &[KeptRecall]) -> bool
     ensures { result ≡ list_any (λ e. is_of file cred e.recall) entries.now }
 {
     for entry in entries {
@@ -50,7 +50,7 @@ pub fn is_under_way(file: FileId, cred: Cred, entries: &[Entry]) -> bool
 }
 
 /// The grant of the callback that is outstanding to this client.
-pub fn holder(client: u64, entries: &[Entry]) -> Option<(FileId, Cred)>
+pub fn holder(client: u64, entries: &[KeptRecall]) -> Option<(FileId, Cred)>
     ensures { result ≡ option_map grant_in (find (λ e. is_out_to client e.recall) entries.now) }
 {
     for entry in entries {
@@ -62,7 +62,7 @@ pub fn holder(client: u64, entries: &[Entry]) -> Option<(FileId, Cred)>
 }
 
 /// The grant of the first recall that has expired.
-pub fn expired(now: u64, entries: &[Entry]) -> Option<(FileId, Cred)>
+pub fn expired(now: u64, entries: &[KeptRecall]) -> Option<(FileId, Cred)>
     ensures { result ≡ option_map grant_in (find (λ e. has_expired now e.recall) entries.now) }
 {
     for entry in entries {
@@ -74,7 +74,7 @@ pub fn expired(now: u64, entries: &[Entry]) -> Option<(FileId, Cred)>
 }
 
 /// The place in front of the first that a recall comes before, or behind all.
-pub fn place_for(recall: Recall, entries: &[Entry]) -> usize
+pub fn place_for(recall: Recall, entries: &[KeptRecall]) -> usize
     ensures exact { result ≡ position_or_len (λ e. is_before recall e.recall) entries.now }
     ensures within { result ≤ length entries.now }
 {
@@ -87,7 +87,11 @@ pub fn place_for(recall: Recall, entries: &[Entry]) -> usize
 }
 
 /// Puts an entry in front of the one at a place. At an error nothing has changed.
-pub fn insert(place: usize, entry: Entry, entries: &mut Vec<Entry>) -> Result<(), NoMemory>
+pub fn insert(
+    place: usize,
+    entry: KeptRecall,
+    entries: &mut Vec<KeptRecall>,
+) -> Result<(), NoMemory>
     requires { place ≤ length entries.old.items }
     ensures ok { OnOk result (entries.new.items ≡ insert entries.old.items place entry) }
     ensures err { OnErr result (entries.new.items ≡ entries.old.items) }
@@ -97,7 +101,7 @@ pub fn insert(place: usize, entry: Entry, entries: &mut Vec<Entry>) -> Result<()
 }
 
 /// This grant's callback is outstanding to this client, or none is.
-pub fn hold(client: u64, grant: Option<(FileId, Cred)>, entries: &mut [Entry])
+pub fn hold(client: u64, grant: Option<(FileId, Cred)>, entries: &mut [KeptRecall])
     ensures { entries.new ≡ map (held_as client grant) entries.old }
 {
     for entry in entries {
@@ -106,7 +110,7 @@ pub fn hold(client: u64, grant: Option<(FileId, Cred)>, entries: &mut [Entry])
 }
 
 /// No callback of these recalls is outstanding.
-fn release(ended: Ended, entries: &mut [Entry])
+fn release(ended: Ended, entries: &mut [KeptRecall])
     ensures { entries.new ≡ map (released ended) entries.old }
 {
     for entry in entries {
@@ -115,7 +119,7 @@ fn release(ended: Ended, entries: &mut [Entry])
 }
 
 /// These recalls are over.
-pub fn forget(ended: Ended, entries: &mut Vec<Entry>)
+pub fn forget(ended: Ended, entries: &mut Vec<KeptRecall>)
     ensures { entries.new.items ≡ entries_after ended entries.old.items }
 {
     entries.retain(|entry| !is_ended(ended, (entry.recall.file, entry.recall.cred)));
@@ -123,7 +127,7 @@ pub fn forget(ended: Ended, entries: &mut Vec<Entry>)
 }
 
 /// A tick at each of them.
-pub fn tick_all(entries: &mut [Entry])
+pub fn tick_all(entries: &mut [KeptRecall])
     ensures { entries.new ≡ map ticked entries.old }
 {
     for entry in entries {

@@ -3,7 +3,7 @@
 #![tactic(auto)]
 
 mod entries;
-mod entry;
+mod kept_recall;
 mod laws;
 mod recall;
 mod recalls;

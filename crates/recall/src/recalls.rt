@@ -8,7 +8,7 @@ ghost use Rattle.recall.specs.Entries.{goes_on};
 use crate::entries::{
     expired, forget, hold, holder, insert, is_under_way, outstanding, place_for, ready, tick_all,
 };
-use crate::entry::{Ended, Entry};
+use crate::kept_recall::{Ended, KeptRecall};
 use crate::recall::{AskFault, Outcome, Recall, RecallCall, RecallStage};
 use cluster_model::{Cred, FileId, MAX_TIMEOUTS};
 use ff_xdr::NoMemory;
@@ -21,7 +21,7 @@ use std::marker::Model;
 /// them have passed since it was asked. Each call goes through the recalls a fixed number of times.
 #[derive(Debug, Drop)]
 pub struct Recalls {
-    entries: Vec<Entry>,
+    entries: Vec<KeptRecall>,
 }
 
 impl Model for Recalls {
@@ -70,7 +70,7 @@ impl Recalls {
         let held_by = holder(client, self.entries.as_slice());
         let place = place_for(recall, self.entries.as_slice());
         // by hand, since no clause says which error `?` makes of it
-        if let Err(e) = insert(place, Entry { recall, held_by }, &mut self.entries) {
+        if let Err(e) = insert(place, KeptRecall { recall, held_by }, &mut self.entries) {
             return Err(AskFault::NoMemory(e));
         }
         Ok(())
@@ -86,7 +86,7 @@ impl Recalls {
         let held_by = Some((recall.file, recall.cred));
         let stage = RecallStage::Out { xid, timeouts: 0 };
         let recall = Recall { stage, ..recall };
-        self.entries[place] = Entry { recall, held_by };
+        self.entries[place] = KeptRecall { recall, held_by };
         hold(recall.client, held_by, self.entries.as_mut_slice());
         Some(RecallCall {
             file: recall.file,
@@ -157,7 +157,7 @@ impl Recalls {
                     stage,
                     ..entry.recall
                 };
-                self.entries[place] = Entry { recall, ..entry };
+                self.entries[place] = KeptRecall { recall, ..entry };
                 Outcome::Waiting
             }
             RecallStage::Out { .. } => {
@@ -197,7 +197,7 @@ impl Recalls {
         ensures { self.new ≡ slice_set self.old place (at_stage stage recall) }
     {
         let recall = Recall { stage, ..recall };
-        self.entries[place] = Entry {
+        self.entries[place] = KeptRecall {
             recall,
             held_by: None,
         };

@@ -7,7 +7,7 @@ use Rattle.ff_xdr.specs.Reading.{reading, whole}
 use Rattle.rpc_record.specs.Replies.{ReplyStat, is_success}
 use Rattle.nfs4_compound.specs.CbResults.{cb_resop4}
 use Rattle.nfs4_compound.specs.Compounds.{cb_compound4_res}
-use Rattle.mds_parts.specs.MdsResults.{in_arm, is_done_result}
+use Rattle.client_compounds.specs.MdsResults.{in_arm, is_done_result}
 
 -- a reply that no client gives by the standard counts as SERVERFAULT (section 15.1.1.9), which settles no recall
 abbrev pub odd_recall : ℕ

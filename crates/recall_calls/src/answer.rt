@@ -9,8 +9,8 @@ ghost use Rattle.nfs4_compound.specs.Compounds.{cb_compound4_res};
 ghost use Rattle.nfs4_compound.specs.CbResults.{cb_resop4, cb_res_value};
 ghost use Rattle.recall_calls.specs.RecallAnswers.{bears_out, is_begun, recall_came_to, settles, compound_status, read_status, recall_status};
 
+use client_compounds::{Few, few_of};
 use ff_xdr::{Array, Items, Wire};
-use mds_parts::{Few, few_of};
 use nfs4_compound::{CbRes, Tag4};
 use nfs4_types::{OpResult, Stat4};
 use rpc_record::ReplyBody;

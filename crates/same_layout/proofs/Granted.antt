@@ -24,10 +24,10 @@ use Rattle.ff_layout.specs.Mirror.{ff_mirror4}
 use Rattle.ff_layout.specs.Layout.{ff_layout4}
 use Rattle.cluster_model.specs.declared.ids.Mirror.{Mirror}
 use Rattle.cluster_model.specs.Mirrors.{has_server, are_on_different_servers, are_mirrors}
-use Rattle.mds_file_calls.specs.declared.grant.GrantedMirror.{GrantedMirror}
-use Rattle.mds_file_calls.specs.LayoutGrants.{user_number_in, server_number, server_in, granted_mirror_at, granted_mirror_of, data_server_of, under_one, joined_mirror, mirrors_under, granted_to, grant_by, layout_grant_of}
-use Rattle.mds_file_calls.specs.FileResults.{layout_get_ok}
-use Rattle.mds_file_calls.proofs.Numbers.{number_is}
+use Rattle.client_file_calls.specs.declared.grant.GrantedMirror.{GrantedMirror}
+use Rattle.client_file_calls.specs.LayoutGrants.{user_number_in, server_number, server_in, granted_mirror_at, granted_mirror_of, data_server_of, under_one, joined_mirror, mirrors_under, granted_to, grant_by, layout_grant_of}
+use Rattle.client_file_calls.specs.FileResults.{layout_get_ok}
+use Rattle.client_file_calls.proofs.Numbers.{number_is}
 use Rattle.granted_layouts.specs.GrantedBodies.{server_under, mirror_under, layout_under, layout_body, layout_result, whole_layout}
 use Rattle.same_layout.specs.SameLayout.{CanBeGranted, IsReadAsGranted, unseen}
 

@@ -6,7 +6,7 @@ use Rattle.nfs4_types.specs.declared.stateid.Stateid.{Stateid}
 use Rattle.nfs4_compound.specs.Results.{resop4}
 use Rattle.cluster_model.specs.declared.ids.Mirror.{Mirror}
 use Rattle.cluster_model.specs.Mirrors.{are_mirrors}
-use Rattle.mds_file_calls.specs.FileResults.{layout_get_ok}
+use Rattle.client_file_calls.specs.FileResults.{layout_get_ok}
 use Rattle.granted_layouts.specs.GrantedBodies.{layout_body, layout_result, whole_layout}
 
 -- a data server has a number from 1 to 16, and a file one of eight bytes there

@@ -22,7 +22,7 @@ use Rattle.cluster_laws.specs.Agreement.{cause_in, causes_of}
 use Rattle.world_rule.specs.ClusterWorlds.{ClusterState}
 use Rattle.ds_files.specs.Receive.{outcome_of}
 use Rattle.ds_calls.specs.DsCallLaws.{DsMessage, HasRecord}
-use Rattle.mds_file_calls.specs.declared.grant.LayoutGrant.{LayoutGrant}
+use Rattle.client_file_calls.specs.declared.grant.LayoutGrant.{LayoutGrant}
 use Rattle.same_server.specs.SameServer.{DoesTheCall, caller_of_user}
 use Rattle.proper_servers.specs.ProperServers.{IsProper}
 use Rattle.client_state.specs.ClientSends.{ClientSend, CallsServer}

@@ -4,8 +4,8 @@ use Rattle.world_rule.specs.ClusterWorlds.{ClusterState}
 use Rattle.nfs4_types.specs.declared.ids.SessionId.{SessionId}
 use Rattle.nfs4_types.specs.declared.status.Stat4.TheVariants as stat
 use Rattle.nfs4_session.specs.Clients.{client_in}
-use Rattle.mds_calls.specs.MdsCalls.{OnSlot, SlotCallValue, CreateSession}
-use Rattle.mds_calls.specs.MdsReplies.{MdsReplyValue}
+use Rattle.client_mds_calls.specs.MdsCalls.{OnSlot, SlotCallValue, CreateSession}
+use Rattle.client_mds_calls.specs.MdsReplies.{MdsReplyValue}
 use Rattle.mds_walk.specs.MdsRuns.{MdsEvent}
 use Rattle.mds_replies.specs.ClientCalls.{HearsCall, AreCalls, IsEventOf}
 use Rattle.mds_replies.specs.ClientIds.{GivesSession}

@@ -10,8 +10,8 @@ use Rattle.nfs4_types.specs.declared.ids.SessionId.{SessionId}
 use Rattle.nfs4_session.specs.Clients.{client_in, number_in}
 use Rattle.nfs4_session.specs.Slots.{SlotState, Cached}
 use Rattle.table_slots.specs.TableSlots.{is_of_session}
-use Rattle.mds_calls.specs.MdsCalls.{SlotCallValue, ask_on_slot}
-use Rattle.mds_calls.specs.MdsReplies.{MdsAnswerValue, reply_of_ask}
+use Rattle.client_mds_calls.specs.MdsCalls.{SlotCallValue, ask_on_slot}
+use Rattle.client_mds_calls.specs.MdsReplies.{MdsAnswerValue, reply_of_ask}
 use Rattle.mds_rule.specs.MdsStates.{MdsValue}
 use Rattle.mds_walk.specs.MdsRuns.{MdsEvent}
 use Rattle.mds_replies.specs.ClientCalls.{IsEventOf}

@@ -6,9 +6,9 @@ use Rattle.world_rule.specs.ClusterWorlds.{ClusterState}
 use Rattle.nfs4_types.specs.declared.ids.SessionId.{SessionId}
 use Rattle.nfs4_types.specs.declared.status.Stat4.TheVariants as stat
 use Rattle.table_slots.specs.TableSlots.{is_of_session}
-use Rattle.mds_calls.specs.MdsCalls.{MdsCallValue, OnSlot, SlotCallValue, ask_of, ask_on_slot, takes_slot}
-use Rattle.mds_calls.specs.MdsReplies.{MdsReplyValue, reply_of_ask}
-use Rattle.mds_calls.specs.MdsCalls as slot
+use Rattle.client_mds_calls.specs.MdsCalls.{MdsCallValue, OnSlot, SlotCallValue, ask_of, ask_on_slot, takes_slot}
+use Rattle.client_mds_calls.specs.MdsReplies.{MdsReplyValue, reply_of_ask}
+use Rattle.client_mds_calls.specs.MdsCalls as slot
 use Rattle.mds_walk.specs.MdsRuns.{MdsEvent, Hears}
 use Rattle.mds_replies.specs.AnsweredRequests.{StaysRoomy, IsRefusedWith, TookEffectAmong}
 use Rattle.mds_reports.specs.SlotReports.{AgreesWith, AgreesRead, CameAlone}

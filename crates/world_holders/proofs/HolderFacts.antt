@@ -7,7 +7,7 @@ use Rattle.std.proofs.lemmas.List.{append_assoc, append-nil}
 use Rattle.cluster_model.specs.declared.entry.Entry.{Entry}
 use Rattle.device_addr.specs.Universal.{AddressValue}
 use Rattle.device_addr.specs.declared.net_addr.NetAddr.{NetAddr}
-use Rattle.mds_file_calls.specs.declared.open.OpenFile.{OpenFile}
+use Rattle.client_file_calls.specs.declared.open.OpenFile.{OpenFile}
 use Rattle.mds_walk.specs.MdsRuns.{MdsEvent}
 use Rattle.mds_laws.specs.OwnPeriods.{RunsOwnPeriods}
 use Rattle.mds_histories.specs.MdsHistory.{MdsItem, Comes, Enters as MdsEnters, Sends as MdsSends}

@@ -16,11 +16,11 @@ use Rattle.cluster_laws.specs.Agreement.{sent_of}
 use Rattle.cluster_laws.specs.Holders.{the_write}
 use Rattle.world_rule.specs.ClusterWorlds.{ClusterState}
 use Rattle.nfs4_types.specs.declared.stateid.Stateid.{Stateid}
-use Rattle.mds_file_calls.specs.declared.grant.LayoutGrant.{LayoutGrant}
-use Rattle.mds_file_calls.specs.declared.layout_return.FailedMirror.{FailedMirror}
-use Rattle.mds_calls.specs.FittingCalls.{reports_server}
-use Rattle.mds_calls.specs.MdsCalls.{OnSlot}
-use Rattle.mds_calls.specs.MdsCalls as slot
+use Rattle.client_file_calls.specs.declared.grant.LayoutGrant.{LayoutGrant}
+use Rattle.client_file_calls.specs.declared.layout_return.FailedMirror.{FailedMirror}
+use Rattle.client_mds_calls.specs.FittingCalls.{reports_server}
+use Rattle.client_mds_calls.specs.MdsCalls.{OnSlot}
+use Rattle.client_mds_calls.specs.MdsCalls as slot
 use Rattle.client_state.specs.ClientSends.{ClientSend, CallsServer, CallsMds, spelled_send}
 use Rattle.client_laws.specs.ClientHistory.{HistoryItem, Hears, LeftProtocol, Enters, Sends, HasItem, Each, client_history}
 use Rattle.client_laws.specs.ClientRunLaws.{WasGranted, AreGrantedOnce, IsSilent, KeepsSilent, WasCovered, CoveredUnreported, MayReturn, ReturnsCommitted}

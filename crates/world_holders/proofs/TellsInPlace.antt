@@ -12,7 +12,7 @@ use Rattle.cluster_laws.specs.Agreement.{sent_of}
 use Rattle.cluster_laws.specs.Holders.{IsIn, the_write, HasEndedClean}
 use Rattle.cluster_laws.proofs.Lists.{all_more}
 use Rattle.world_rule.specs.ClusterWorlds.{ClusterState}
-use Rattle.mds_file_calls.specs.declared.grant.LayoutGrant.{LayoutGrant}
+use Rattle.client_file_calls.specs.declared.grant.LayoutGrant.{LayoutGrant}
 use Rattle.client_laws.specs.ClientHistory.{HistoryItem, Enters, HasItem, Each, client_history}
 use Rattle.client_laws.specs.ClientRunLaws.{WasCovered, CoveredAtEach, CoveredByReturn, WasTakenUnder}
 use Rattle.client_sessions.specs.LayoutEnds.{HasUnreported, IsToldOf, EntersGranted, IsInputOfBytes, TakesBytes}

@@ -26,12 +26,12 @@ use Rattle.cluster_laws.specs.Holders.{HasEndedClean}
 use Rattle.world_rule.specs.ClusterWorlds.{ClusterState}
 use Rattle.nfs4_types.specs.Stateids.{three_words}
 use Rattle.nfs4_session.specs.Clients.{client_in}
-use Rattle.mds_file_calls.specs.declared.grant.LayoutGrant.{LayoutGrant}
-use Rattle.mds_calls.specs.declared.ask.MdsAsk.TheVariants as ask
-use Rattle.mds_calls.specs.FittingCalls.{reports_server}
-use Rattle.mds_calls.specs.MdsCalls.{MdsCallValue, OnSlot}
-use Rattle.mds_calls.specs.MdsCalls as slot
-use Rattle.mds_calls.specs.MdsReplies.{MdsAnswerValue, MdsReplyValue, Returned, reply_of_ask}
+use Rattle.client_file_calls.specs.declared.grant.LayoutGrant.{LayoutGrant}
+use Rattle.client_mds_calls.specs.declared.ask.MdsAsk.TheVariants as ask
+use Rattle.client_mds_calls.specs.FittingCalls.{reports_server}
+use Rattle.client_mds_calls.specs.MdsCalls.{MdsCallValue, OnSlot}
+use Rattle.client_mds_calls.specs.MdsCalls as slot
+use Rattle.client_mds_calls.specs.MdsReplies.{MdsAnswerValue, MdsReplyValue, Returned, reply_of_ask}
 use Rattle.mds_rule.specs.MdsStates.{MdsValue, new_mds}
 use Rattle.mds_walk.specs.MdsRuns.{MdsEvent, after_event, run_from, mds_run}
 use Rattle.mds_laws.specs.MdsRunLaws.{grants_uid, GrantsUidsOnce}

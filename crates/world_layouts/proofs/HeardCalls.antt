@@ -17,10 +17,10 @@ use Rattle.nfs4_compound.specs.Compounds.{CompoundValue}
 use Rattle.nfs4_compound.specs.Laws.{AreServedWhole}
 use Rattle.mds_receive.specs.MdsReceive.{IsAnswered, IsCompound, of_reply, incoming_of}
 use Rattle.mds_receive.specs.MdsReceiveLaws.{HasCallRecord, compound_with, IsTakenWhole}
-use Rattle.mds_calls.specs.FittingCalls.{FitsAsked}
-use Rattle.mds_calls.specs.MdsCalls.{MdsCallValue}
-use Rattle.mds_calls.specs.MdsCompounds.{mds_ops, mds_call_bytes}
-use Rattle.mds_calls.specs.MdsCallLaws.{MdsMessage, HasCompoundRecord, IsCompoundUnderstood, compound_message_call}
+use Rattle.client_mds_calls.specs.FittingCalls.{FitsAsked}
+use Rattle.client_mds_calls.specs.MdsCalls.{MdsCallValue}
+use Rattle.client_mds_calls.specs.MdsCompounds.{mds_ops, mds_call_bytes}
+use Rattle.client_mds_calls.specs.MdsCallLaws.{MdsMessage, HasCompoundRecord, IsCompoundUnderstood, compound_message_call}
 use Rattle.mds_rule.specs.MdsStates.{MdsStep, new_mds}
 use Rattle.mds_walk.specs.MdsRuns.{MdsInput, MdsEvent, Hears, IsTimedOut, Ticks, RecallsFile, Resilvers, after_event}
 use Rattle.mds_histories.specs.MdsHistory.{MdsItem, Comes, Enters, Sends, mds_history}

@@ -6,8 +6,8 @@ use Rattle.cluster_model.specs.declared.entry.Entry.{Entry}
 use Rattle.cluster_model.specs.declared.entry.Entry.TheVariants as entry
 use Rattle.world_rule.specs.ClusterWorlds.{ClusterState}
 use Rattle.nfs4_types.specs.declared.ids.SessionId.{SessionId}
-use Rattle.mds_calls.specs.MdsCalls.{MdsCallValue, OnSlot, SlotCallValue, ask_of, ask_on_slot, takes_slot}
-use Rattle.mds_calls.specs.MdsReplies.{MdsReplyValue, reply_of_ask}
+use Rattle.client_mds_calls.specs.MdsCalls.{MdsCallValue, OnSlot, SlotCallValue, ask_of, ask_on_slot, takes_slot}
+use Rattle.client_mds_calls.specs.MdsReplies.{MdsReplyValue, reply_of_ask}
 use Rattle.mds_walk.specs.MdsRuns.{MdsEvent, Hears}
 use Rattle.mds_replies.specs.ClientCalls.{IsCallFrom, IsEventOf}
 use Rattle.client_laws.specs.ClientHistory.{HistoryItem, HasItem}

@@ -8,7 +8,7 @@ use Rattle.cluster_model.specs.declared.ids.NodeId.TheVariants.{Mds, Client}
 use Rattle.cluster_model.specs.declared.entry.Entry.{Entry}
 use Rattle.cluster_model.specs.declared.entry.Entry.TheVariants as entry
 use Rattle.world_rule.specs.ClusterWorlds.{ClusterState}
-use Rattle.mds_calls.specs.MdsCalls.{MdsCallValue}
+use Rattle.client_mds_calls.specs.MdsCalls.{MdsCallValue}
 use Rattle.mds_rule.specs.MdsStates.{MdsValue, new_mds}
 use Rattle.mds_walk.specs.MdsRuns.{MdsEvent, after_event}
 use Rattle.mds_histories.specs.MdsHistory.{MdsItem, Comes, Enters, Sends, mds_history}

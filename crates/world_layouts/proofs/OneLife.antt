@@ -1,7 +1,7 @@
 -- Two compounds of a client under one number are of one life of it.
 use Rattle.std.proofs.Common.{◌≡◌, ◌<◌, ℕ, List, [], ◌∷◌, ◌++◌, sym, subst, ◌∙◌, inl, inr, ◌⊎◌, arith}
 use Rattle.cluster_model.specs.Members.{IsOneOf}
-use Rattle.mds_calls.specs.MdsCalls.{MdsCallValue}
+use Rattle.client_mds_calls.specs.MdsCalls.{MdsCallValue}
 use Rattle.client_state.specs.ClientStates.{fresh_client}
 use Rattle.client_laws.specs.ClientHistory.{ClientInput, HistoryItem, HasItem, Each, client_history, client_after}
 use Rattle.client_records.specs.ClientRecords.{NumbersOn, IsNumberedOn, EachRunIsNumbered}

@@ -11,11 +11,11 @@ use Rattle.nfs4_types.specs.declared.status.Stat4.TheVariants as stat
 use Rattle.nfs4_session.specs.Clients.{client_in, number_in}
 use Rattle.table_slots.specs.TableSlots.{is_of_session}
 use Rattle.device_addr.specs.Universal.{AddressValue}
-use Rattle.mds_calls.specs.declared.reply.SlotReport.{SlotReport}
-use Rattle.mds_calls.specs.declared.reply.SlotReport.TheVariants.{Taken, Uncached, Unknown}
-use Rattle.mds_calls.specs.MdsCalls.{MdsCallValue, ExchangeId, CreateSession, OnSlot, SlotCallValue}
-use Rattle.mds_calls.specs.MdsReplies.{MdsReplyValue, Session}
-use Rattle.mds_calls.specs.MdsReplies as says_of
+use Rattle.client_mds_calls.specs.declared.reply.SlotReport.{SlotReport}
+use Rattle.client_mds_calls.specs.declared.reply.SlotReport.TheVariants.{Taken, Uncached, Unknown}
+use Rattle.client_mds_calls.specs.MdsCalls.{MdsCallValue, ExchangeId, CreateSession, OnSlot, SlotCallValue}
+use Rattle.client_mds_calls.specs.MdsReplies.{MdsReplyValue, Session}
+use Rattle.client_mds_calls.specs.MdsReplies as says_of
 use Rattle.mds_walk.specs.MdsRuns.{MdsEvent}
 use Rattle.mds_replies.specs.ClientCalls.{IsCallFrom, AreCalls, server_after, IsEventOf, HearsCall}
 use Rattle.mds_replies.specs.SlotReplies.{count_taken}

@@ -3,7 +3,7 @@ use Rattle.std.proofs.Common.{◌≡◌, ◌<◌, ℕ, ◌^◌, length, List, []
 use Rattle.nfs4_types.specs.Stateids.{three_words}
 use Rattle.nfs4_types.specs.declared.stateid.Stateid.{Stateid}
 use Rattle.world_rule.specs.ClusterWorlds.{ClusterState}
-use Rattle.mds_file_calls.specs.declared.grant.LayoutGrant.{LayoutGrant}
+use Rattle.client_file_calls.specs.declared.grant.LayoutGrant.{LayoutGrant}
 use Rattle.client_laws.specs.ClientHistory.{HistoryItem, client_history}
 use Rattle.client_laws.specs.ClientRunLaws.{WasGranted}
 use Rattle.node_histories.specs.ClientLives.{Life, start_of}

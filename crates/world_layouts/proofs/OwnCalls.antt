@@ -10,11 +10,11 @@ use Rattle.cluster_model.specs.declared.entry.Entry.{Entry}
 use Rattle.world_rule.specs.ClusterWorlds.{ClusterState}
 use Rattle.nfs4_compound.specs.Args.{argop4}
 use Rattle.mds_receive.specs.MdsReceive.{IsCompound, incoming_of}
-use Rattle.mds_calls.specs.FittingCalls.{FitsAsked}
-use Rattle.mds_calls.specs.MdsCalls.{MdsCallValue, ExchangeId, CreateSession, OnSlot, ask_of, takes_slot}
-use Rattle.mds_calls.specs.MdsCalls as slot
-use Rattle.mds_calls.specs.MdsCompounds.{mds_ops}
-use Rattle.mds_calls.specs.MdsCallLaws.{HasCompoundRecord}
+use Rattle.client_mds_calls.specs.FittingCalls.{FitsAsked}
+use Rattle.client_mds_calls.specs.MdsCalls.{MdsCallValue, ExchangeId, CreateSession, OnSlot, ask_of, takes_slot}
+use Rattle.client_mds_calls.specs.MdsCalls as slot
+use Rattle.client_mds_calls.specs.MdsCompounds.{mds_ops}
+use Rattle.client_mds_calls.specs.MdsCallLaws.{HasCompoundRecord}
 use Rattle.mds_walk.specs.MdsRuns.{MdsEvent}
 use Rattle.mds_replies.specs.ClientCalls.{IsCallFrom, IsEventOf}
 use Rattle.client_laws.specs.ClientHistory.{HistoryItem, HasItem}

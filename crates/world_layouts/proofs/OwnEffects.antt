@@ -3,10 +3,10 @@ use Rattle.std.proofs.Common.{◌≡◌, ◌<◌, ℕ, ◌^◌, length, List, []
 use Rattle.cluster_model.specs.declared.ids.NodeId.{NodeId}
 use Rattle.world_rule.specs.ClusterWorlds.{ClusterState}
 use Rattle.nfs4_types.specs.declared.ids.SessionId.{SessionId}
-use Rattle.mds_calls.specs.declared.reply.SlotReport.{SlotReport}
-use Rattle.mds_calls.specs.declared.reply.SlotReport.TheVariants.{Taken}
-use Rattle.mds_calls.specs.MdsCalls.{OnSlot, SlotCallValue}
-use Rattle.mds_calls.specs.MdsReplies.{MdsAnswerValue, MdsReplyValue}
+use Rattle.client_mds_calls.specs.declared.reply.SlotReport.{SlotReport}
+use Rattle.client_mds_calls.specs.declared.reply.SlotReport.TheVariants.{Taken}
+use Rattle.client_mds_calls.specs.MdsCalls.{OnSlot, SlotCallValue}
+use Rattle.client_mds_calls.specs.MdsReplies.{MdsAnswerValue, MdsReplyValue}
 use Rattle.mds_walk.specs.MdsRuns.{MdsEvent}
 use Rattle.mds_replies.specs.ClientCalls.{IsCallFrom, IsEventOf}
 use Rattle.mds_replies.specs.SlotReplies.{TookEffect}

@@ -12,9 +12,9 @@ use Rattle.cluster_model.specs.Members.{IsOneOf}
 use Rattle.world_rule.specs.ClusterWorlds.{ClusterState}
 use Rattle.nfs4_types.specs.declared.ids.SessionId.{SessionId}
 use Rattle.nfs4_session.specs.Clients.{client_in}
-use Rattle.mds_calls.specs.MdsCalls.{MdsCallValue, ExchangeId, CreateSession, OnSlot, SlotCallValue}
-use Rattle.mds_calls.specs.MdsReplies.{MdsReplyValue, Session}
-use Rattle.mds_calls.specs.MdsReplies as says_of
+use Rattle.client_mds_calls.specs.MdsCalls.{MdsCallValue, ExchangeId, CreateSession, OnSlot, SlotCallValue}
+use Rattle.client_mds_calls.specs.MdsReplies.{MdsReplyValue, Session}
+use Rattle.client_mds_calls.specs.MdsReplies as says_of
 use Rattle.mds_walk.specs.MdsRuns.{MdsEvent}
 use Rattle.mds_replies.specs.ClientCalls.{IsEventOf}
 use Rattle.mds_replies.specs.ClientIds.{GivesId, IdsAreOwn, SessionsAreOwn}

@@ -11,8 +11,8 @@ use Rattle.nfs4_types.specs.declared.sequence.Sequence.{Sequence}
 use Rattle.nfs4_session.specs.Clients.{client_in, number_in}
 use Rattle.table_slots.specs.TableSlots.{is_of_session}
 use Rattle.nfs4_compound.specs.Compounds.{CompoundValue}
-use Rattle.mds_calls.specs.MdsCalls.{MdsCallValue, ExchangeId, CreateSession, OnSlot, SlotCallValue}
-use Rattle.mds_calls.specs.MdsCompounds.{mds_ops}
+use Rattle.client_mds_calls.specs.MdsCalls.{MdsCallValue, ExchangeId, CreateSession, OnSlot, SlotCallValue}
+use Rattle.client_mds_calls.specs.MdsCompounds.{mds_ops}
 use Rattle.mds_walk.specs.MdsRuns.{MdsEvent}
 use Rattle.mds_walk.specs.FirstRequests.{first_request}
 use Rattle.mds_replies.specs.ClientCalls.{IsCallFrom, IsEventOf}

@@ -8,11 +8,11 @@ use Rattle.ff_xdr.specs.Reading.{reading, whole}
 use Rattle.rpc_record.specs.Replies.{RpcReply, is_success}
 use Rattle.nfs4_compound.specs.Results.{resop4}
 use Rattle.nfs4_compound.specs.Compounds.{compound4_res}
-use Rattle.mds_parts.specs.MdsResults.{one_in, in_arm, is_done_result, sequence_ok}
-use Rattle.mds_file_calls.specs.FileResults.{put_fh_ok, layout_return_results, layout_return_ok}
-use Rattle.mds_calls.specs.declared.reply.SlotReport.TheVariants.{Taken, Unknown}
-use Rattle.mds_calls.specs.declared.ask.MdsAsk.TheVariants as ask
-use Rattle.mds_calls.specs.MdsReplies.{Returned, Refused, answer_if, results_of_ask, slot_result, slot_answer_of, slot_told, compound_reply, odd_mds_reply, reply_of_ask}
+use Rattle.client_compounds.specs.MdsResults.{one_in, in_arm, is_done_result, sequence_ok}
+use Rattle.client_file_calls.specs.FileResults.{put_fh_ok, layout_return_results, layout_return_ok}
+use Rattle.client_mds_calls.specs.declared.reply.SlotReport.TheVariants.{Taken, Unknown}
+use Rattle.client_mds_calls.specs.declared.ask.MdsAsk.TheVariants as ask
+use Rattle.client_mds_calls.specs.MdsReplies.{Returned, Refused, answer_if, results_of_ask, slot_result, slot_answer_of, slot_told, compound_reply, odd_mds_reply, reply_of_ask}
 
 one_both : {A B C R S : Type 0} (P : R → S → Type 0) (here : Bool) (some : OneOf here A C → R) (none : R) (behind : (C → R) → B → R) (more : OneOf here A C → S) (other : S) (after : (C → S) → B → S)
     → ((b : OneOf here A C) → P (some b) (more b)) → P none other → ((f : C → R) (g : C → S) → ((c : C) → P (f c) (g c)) → (w : B) → P (behind f w) (after g w))

@@ -15,11 +15,11 @@ use Rattle.same_layout.specs.SameLayout.{unseen}
 use Rattle.nfs4_session.specs.Clients.{client_in}
 use Rattle.nfs4_compound.specs.Args.{argop4}
 use Rattle.nfs4_compound.specs.Compounds.{CompoundValue}
-use Rattle.mds_parts.specs.MdsResults.{in_arm}
-use Rattle.mds_file_calls.specs.declared.grant.LayoutGrant.{LayoutGrant}
-use Rattle.mds_calls.specs.MdsCalls.{MdsCallValue, ExchangeId, CreateSession, OnSlot, SlotCallValue}
-use Rattle.mds_calls.specs.MdsCalls as slot
-use Rattle.mds_calls.specs.MdsCompounds.{mds_ops}
+use Rattle.client_compounds.specs.MdsResults.{in_arm}
+use Rattle.client_file_calls.specs.declared.grant.LayoutGrant.{LayoutGrant}
+use Rattle.client_mds_calls.specs.MdsCalls.{MdsCallValue, ExchangeId, CreateSession, OnSlot, SlotCallValue}
+use Rattle.client_mds_calls.specs.MdsCalls as slot
+use Rattle.client_mds_calls.specs.MdsCompounds.{mds_ops}
 use Rattle.mds_rule.specs.MdsStates.{ServedFile}
 use Rattle.mds_walk.specs.MdsRuns.{MdsEvent, mds_run}
 use Rattle.mds_replies.specs.ClientCalls.{AreCalls, server_after, IsEventOf}

@@ -15,12 +15,12 @@ use Rattle.cluster_laws.specs.FenceLaw.{live_in}
 use Rattle.cluster_laws.specs.Agreement.{causes_of}
 use Rattle.cluster_laws.specs.Holders.{HasEndedClean}
 use Rattle.holder_parts.specs.HeldOwners.{DoHoldersOwn}
-use Rattle.mds_file_calls.specs.declared.grant.LayoutGrant.{LayoutGrant}
-use Rattle.mds_file_calls.specs.declared.layout_return.FailedMirror.{FailedMirror}
-use Rattle.mds_calls.specs.FittingCalls.{reports_server}
-use Rattle.mds_calls.specs.MdsCalls.{SlotCallValue, OnSlot}
+use Rattle.client_file_calls.specs.declared.grant.LayoutGrant.{LayoutGrant}
+use Rattle.client_file_calls.specs.declared.layout_return.FailedMirror.{FailedMirror}
+use Rattle.client_mds_calls.specs.FittingCalls.{reports_server}
+use Rattle.client_mds_calls.specs.MdsCalls.{SlotCallValue, OnSlot}
 use Rattle.table_slots.specs.TableSlots.{is_of_session}
-use Rattle.mds_calls.specs.MdsCalls as slot
+use Rattle.client_mds_calls.specs.MdsCalls as slot
 use Rattle.client_state.specs.ClientSends.{CallsMds}
 use Rattle.client_laws.specs.ClientHistory.{HistoryItem, Sends, HasItem, client_history}
 use Rattle.client_laws.specs.ClientRunLaws.{WasGranted, AreGrantedOnce, CoveredByReturn}

@@ -2,9 +2,9 @@
 
 ghost use Rattle.world_layouts.specs.LayoutsInOrder.{EachWorldIsInOrder};
 
+use client_mds_calls::every_mds_call;
 use client_records::client_records;
 use client_sessions::{client_sessions, fitting_calls, session_rounds};
-use mds_calls::every_mds_call;
 use mds_laws::mds_run_law;
 use mds_receive::receive_law;
 use mds_replies::{answers_law, entries_law, id_law, order_law, period_law, replies_law};

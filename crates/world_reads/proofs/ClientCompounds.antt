@@ -12,11 +12,11 @@ use Rattle.nfs4_compound.specs.Args.{argop4}
 use Rattle.nfs4_compound.specs.Compounds.{CompoundValue}
 use Rattle.mds_receive.specs.MdsReceive.{IsCompound, incoming_of}
 use Rattle.mds_receive.specs.MdsReceiveLaws.{compound_with, AsksCompound, IsTakenWhole}
-use Rattle.mds_file_calls.specs.FileOps.{device_info_op}
+use Rattle.client_file_calls.specs.FileOps.{device_info_op}
 use Rattle.nfs4_types.specs.declared.ids.SessionId.{SessionId}
-use Rattle.mds_calls.specs.MdsCalls.{MdsCallValue, ExchangeId, CreateSession, OnSlot, SlotCallValue, ReclaimComplete, Open, LayoutGet, DeviceInfo, Write, Read, LayoutReturn, Renew}
-use Rattle.mds_calls.specs.MdsCompounds.{mds_ops}
-use Rattle.mds_calls.specs.MdsCallLaws.{MdsMessage, HasCompoundRecord, IsCompoundUnderstood, compound_record_of, compound_message_call}
+use Rattle.client_mds_calls.specs.MdsCalls.{MdsCallValue, ExchangeId, CreateSession, OnSlot, SlotCallValue, ReclaimComplete, Open, LayoutGet, DeviceInfo, Write, Read, LayoutReturn, Renew}
+use Rattle.client_mds_calls.specs.MdsCompounds.{mds_ops}
+use Rattle.client_mds_calls.specs.MdsCallLaws.{MdsMessage, HasCompoundRecord, IsCompoundUnderstood, compound_record_of, compound_message_call}
 use Rattle.read_runs.specs.ReadRuns.{ReadsFile, HasNoRead, ReadsInForm}
 
 -- no operation of these is a READ

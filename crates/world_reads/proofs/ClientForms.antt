@@ -12,8 +12,8 @@ use Rattle.nfs4_compound.specs.Compounds.{CompoundValue, compound_at}
 use Rattle.nfs4_compound.specs.Laws.{AreServedWhole}
 use Rattle.mds_receive.specs.MdsReceive.{IsCompound, incoming_of}
 use Rattle.mds_receive.specs.MdsReceiveLaws.{compound_with}
-use Rattle.mds_calls.specs.MdsCompounds.{mds_ops}
-use Rattle.mds_calls.specs.MdsCallLaws.{MdsMessage, HasCompoundRecord, IsReadAsCompound, compound_record_of, compound_message_call}
+use Rattle.client_mds_calls.specs.MdsCompounds.{mds_ops}
+use Rattle.client_mds_calls.specs.MdsCallLaws.{MdsMessage, HasCompoundRecord, IsReadAsCompound, compound_record_of, compound_message_call}
 use Rattle.read_runs.specs.ReadRuns.{ReadsFile, ReadsInForm}
 use Rattle.world_reads.proofs.ReadRecords.{HasCompoundCall, compound_call}
 use Rattle.mds_receive.proofs.WholeCompounds.{compound_whole}

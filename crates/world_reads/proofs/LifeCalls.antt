@@ -6,9 +6,9 @@ use Rattle.cluster_model.specs.declared.entry.Entry.{Entry}
 use Rattle.cluster_model.specs.declared.entry.Entry.TheVariants as entry
 use Rattle.rpc_record.specs.Replies.{RpcReply, reply_bytes}
 use Rattle.cluster_model.specs.Members.{IsOneOf}
-use Rattle.mds_calls.specs.MdsCalls.{MdsCallValue}
-use Rattle.mds_calls.specs.MdsCompounds.{mds_call_bytes}
-use Rattle.mds_calls.specs.MdsCallLaws.{HasCompoundRecord}
+use Rattle.client_mds_calls.specs.MdsCalls.{MdsCallValue}
+use Rattle.client_mds_calls.specs.MdsCompounds.{mds_call_bytes}
+use Rattle.client_mds_calls.specs.MdsCallLaws.{HasCompoundRecord}
 use Rattle.client_state.specs.ClientStates.{fresh_client}
 use Rattle.client_state.specs.ClientSends.{ClientSend, CallsServer, CallsMds, RepeatsToServer, RepeatsToMds, RepliesToMds, spelled_send}
 use Rattle.client_laws.specs.ClientHistory.{ClientInput, HistoryItem, Sends, HasItem, Each, client_history, client_after}

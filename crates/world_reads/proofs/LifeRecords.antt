@@ -8,7 +8,7 @@ use Rattle.cluster_model.specs.declared.entry.Entry.{Entry}
 use Rattle.cluster_model.specs.declared.entry.Entry.TheVariants as entry
 use Rattle.rpc_record.specs.CallNumbers.{IsBelow}
 use Rattle.cluster_laws.proofs.Lists.{all_split}
-use Rattle.mds_calls.specs.MdsCalls.{MdsCallValue}
+use Rattle.client_mds_calls.specs.MdsCalls.{MdsCallValue}
 use Rattle.client_state.specs.declared.request.UserRequest.TheVariants.{Open, Write, Through, Commit, Read, Return}
 use Rattle.client_state.specs.ClientStates.{ClientValue}
 use Rattle.client_state.specs.ClientSends.{ClientSend, CallsMds}

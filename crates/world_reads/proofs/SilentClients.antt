@@ -3,7 +3,7 @@ use Rattle.std.proofs.Common.{◌≡◌, ◌≢◌, ℕ, List, [], ◌∷◌, �
 use Rattle.device_addr.specs.declared.net_addr.NetAddr.{NetAddr}
 use Rattle.cluster_model.specs.declared.ids.NodeId.TheVariants.{Mds}
 use Rattle.cluster_model.specs.declared.entry.Entry.TheVariants.{Told}
-use Rattle.mds_file_calls.specs.declared.open.OpenFile.{OpenFile}
+use Rattle.client_file_calls.specs.declared.open.OpenFile.{OpenFile}
 use Rattle.client_state.specs.declared.layout.Layout.{Layout}
 use Rattle.client_state.specs.declared.tie.Tie.{Tie}
 use Rattle.client_state.specs.ClientStates.{ClientValue, fresh_client}

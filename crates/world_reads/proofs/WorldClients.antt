@@ -17,9 +17,9 @@ use Rattle.nfs4_compound.specs.Args.{argop4}
 use Rattle.nfs4_compound.specs.Compounds.{CompoundValue}
 use Rattle.nfs4_compound.specs.Laws.{AreServedWhole}
 use Rattle.mds_receive.specs.MdsReceive.{IncomingValue, PassedOver, IsReply, IsCompound, of_reply, incoming_of}
-use Rattle.mds_calls.specs.MdsCalls.{MdsCallValue}
-use Rattle.mds_calls.specs.MdsCompounds.{mds_call_bytes}
-use Rattle.mds_calls.specs.MdsCallLaws.{MdsMessage, HasCompoundRecord, IsCompoundUnderstood}
+use Rattle.client_mds_calls.specs.MdsCalls.{MdsCallValue}
+use Rattle.client_mds_calls.specs.MdsCompounds.{mds_call_bytes}
+use Rattle.client_mds_calls.specs.MdsCallLaws.{MdsMessage, HasCompoundRecord, IsCompoundUnderstood}
 use Rattle.mds_rule.specs.MdsStates.{MdsSend, MdsValue, new_mds}
 use Rattle.mds_walk.specs.MdsRuns.{MdsInput, MdsEvent, Hears, IsTimedOut, Ticks, RecallsFile, Resilvers, after_event}
 use Rattle.mds_moves.specs.MdsMoves.{MayComeFrom, AnswersSend}

@@ -7,9 +7,9 @@ ghost use Rattle.node_histories.specs.NodeHistories.{IsToldByNodes};
 ghost use Rattle.world_moves.specs.WorldMoves.{IsRunOf};
 ghost use Rattle.world_journal.specs.Journal.{IsJournalInRange};
 
+use client_mds_calls::every_mds_call;
 use client_records::client_records;
 use ds_calls::every_ds_call;
-use mds_calls::every_mds_call;
 use mds_laws::mds_run_law;
 use nfs4_compound::every_listing;
 use proper_servers::proper_servers;

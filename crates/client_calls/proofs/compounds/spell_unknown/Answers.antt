@@ -1,5 +1,5 @@
 use Rattle.std.proofs.Common.{ap, ◌∙◌}
-use Rattle.mds_calls.specs.MdsCalls.{DeviceInfo}
+use Rattle.client_mds_calls.specs.MdsCalls.{DeviceInfo}
 use Rattle.client_state.specs.ClientStates.{ClientValue}
 use Rattle.client_state.specs.ClientQueue.{unknown_in, unknown_servers}
 use Rattle.client_calls.proofs.Spelled.{spelled_as}

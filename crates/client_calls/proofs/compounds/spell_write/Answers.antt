@@ -1,5 +1,5 @@
 use Rattle.std.proofs.Common.{ap}
-use Rattle.mds_calls.specs.MdsCalls.{Write}
+use Rattle.client_mds_calls.specs.MdsCalls.{Write}
 use Rattle.client_calls.proofs.Spelled.{spelled_as}
 use Rattle.client_calls.proofs.compounds.spell_write.Goals as goal
 

@@ -1,7 +1,7 @@
 use Rattle.std.proofs.Common.{◌+◌, ◌-◌, List, length, get_or, ap, sym, refl}
 use Rattle.std.proofs.lemmas.List.{set-get_or}
 use Rattle.cluster_model.specs.File.{StoredFile, shown}
-use Rattle.ds_procedures.specs.Superblocks.{server_of}
+use Rattle.ds_procedures.specs.ServerBases.{server_of}
 use Rattle.ds_log.specs.PlainBodies.{plain_ranges}
 use Rattle.ds_log.proofs.LastingLemmas.{lasts_at, counted_keeps}
 use Rattle.ds_log.proofs.Rooms.{at_none, holds_none, holds_some}

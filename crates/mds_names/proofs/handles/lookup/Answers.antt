@@ -2,9 +2,9 @@ use Rattle.std.proofs.Common.{◌≡◌, Option, Some, refl, rules, sym, subst, 
 use Rattle.ff_xdr.specs.Arms.{arm}
 use Rattle.nfs4_types.specs.declared.status.Stat4.{Stat4}
 use Rattle.nfs4_compound.specs.Results.{resop4}
-use Rattle.mds_operations.specs.Orders.{refusal}
-use Rattle.mds_operations.specs.Lookup.{lookup_order}
-use Rattle.mds_operations.specs.declared.object.Object.TheVariants.{File}
+use Rattle.mds_refusals.specs.Orders.{refusal}
+use Rattle.mds_refusals.specs.Lookup.{lookup_order}
+use Rattle.mds_refusals.specs.declared.object.Object.TheVariants.{File}
 use Rattle.mds_rule.specs.MdsStates.{file_named}
 use Rattle.mds_rule.specs.OpSteps.{refused_or, gives, at_object}
 use Rattle.mds_rule.specs.FileOps.{file_or_none}

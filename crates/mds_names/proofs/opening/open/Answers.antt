@@ -1,5 +1,5 @@
 use Rattle.std.proofs.Common.{subst}
-use Rattle.mds_operations.specs.declared.open.Creation.{Creation}
+use Rattle.mds_refusals.specs.declared.open.Creation.{Creation}
 use Rattle.mds_rule.specs.MdsStates.{file_named}
 use Rattle.mds_rule.specs.FileOps.{open_named}
 use Rattle.compound_run.specs.CompoundRuns.{HasOperated}

@@ -1,7 +1,7 @@
 use Rattle.std.proofs.Common.{sym, ap, subst, refl, ◌∙◌, ◌≡◌, ℕ, Option, length, length-append}
-use Rattle.mds_operations.specs.declared.object.Object.{Object}
-use Rattle.mds_operations.specs.Orders.{refusal}
-use Rattle.mds_operations.specs.Opens.{open_order, open_step}
+use Rattle.mds_refusals.specs.declared.object.Object.{Object}
+use Rattle.mds_refusals.specs.Orders.{refusal}
+use Rattle.mds_refusals.specs.Opens.{open_order, open_step}
 use Rattle.mds_rule.specs.MdsStates.{CompoundRun, MdsValue, file_named}
 use Rattle.mds_rule.specs.FileOps.{opens_file, with_new_file}
 use Rattle.compound_run.specs.CompoundRuns.{HasOperated}

@@ -1,7 +1,7 @@
 use Rattle.std.proofs.Common.{◌≡◌, Some, sym, ap, ◌∙◌}
 use Rattle.std.proofs.lemmas.Result.{on_ok_weaker}
 use Rattle.rpc_record.specs.Replies.{rpc_reply}
-use Rattle.mds_calls.specs.MdsReplies.{reply_of_ask}
+use Rattle.client_mds_calls.specs.MdsReplies.{reply_of_ask}
 use Rattle.client_state.specs.ClientStates.{ClientValue}
 use Rattle.mirror_client.proofs.StepLemmas.{replied_to}
 use Rattle.mirror_client.proofs.replies.mds_replied.Goals as goal

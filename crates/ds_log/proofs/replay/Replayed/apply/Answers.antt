@@ -1,7 +1,7 @@
 use Rattle.std.proofs.Common.{Option, sym, subst}
 use Rattle.std.specs.Prelude.{IfOk, OnErr}
 use Rattle.cluster_model.specs.Server.{ServerState}
-use Rattle.ds_procedures.specs.Superblocks.{server_of}
+use Rattle.ds_procedures.specs.ServerBases.{server_of}
 use Rattle.ds_log.specs.Bodies.{Logged}
 use Rattle.ds_log.specs.Applies.{Applies, NeedsMemory}
 use Rattle.ds_log.proofs.Reread.{read_applies, read_is}

@@ -1,0 +1,10 @@
+-- LAYOUTCOMMIT (RFC 8881, section 18.42).
+use Rattle.std.specs.Prelude.{not, ◌&&◌, [], ◌∷◌, Option, is_none}
+use Rattle.nfs4_types.specs.declared.status.Stat4.TheVariants as stat
+use Rattle.mds_refusals.specs.declared.object.Object.{Object}
+use Rattle.mds_refusals.specs.declared.named.Named.{Named}
+use Rattle.mds_refusals.specs.Orders.{Order, is_file}
+use Rattle.mds_refusals.specs.Stateids.{is_layout}
+
+abbrev pub layout_commit_order : Option Object → Named → Order
+layout_commit_order current named = (is_none current, stat.NoFileHandle) ∷ (not (is_file current && is_layout named), stat.BadStateid) ∷ []

@@ -1,6 +1,0 @@
-use Rattle.std.proofs.Common.{◌++◌, [], ◌∷◌, ◌∙◌}
-use Rattle.mds_parts.specs.MdsArguments.{compound_args}
-use Rattle.mds_session_calls.proofs.renew.put_renew.Goals as goal
-
-pub returns : goal.returns
-returns c = c.in_ok-put_ops.ensures ∙ (λ i. c.args.out.now ++ compound_args (c.sequence_op-s.ensures.value i ∷ []))
