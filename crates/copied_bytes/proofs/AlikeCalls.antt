@@ -22,8 +22,8 @@ use Rattle.file_rule.specs.FilePhases.{CallOut, call_out, call_out_of, create_ou
 use Rattle.cluster_laws.specs.Machine.{Machine, numbered_at, file_id}
 use Rattle.cluster_laws.proofs.Lists.{put_same, put_other, within_number}
 use Rattle.copied_bytes.specs.CopiedBytes.{users_since}
-use Rattle.copied_bytes.proofs.Stories.{Story}
-use Rattle.copied_bytes.proofs.Placed.{files_set, IfCall, its_call}
+use Rattle.machine_walk.proofs.Stories.{Story}
+use Rattle.machine_walk.proofs.Placed.{files_set, IfCall, its_call}
 use Rattle.copied_bytes.proofs.Replaced.{IsReplaced, NoneLost, covered_set, are_replaced_by}
 use Rattle.copied_bytes.proofs.SinceFree.{IsUserless, users_same}
 use Rattle.copied_bytes.proofs.AlikeKinds.{ReplacedIn, alike_by}

@@ -13,12 +13,12 @@ use Rattle.cluster_laws.specs.Machine.{Machine, Move, new_machine, journal_of, f
 use Rattle.cluster_laws.specs.FenceLaw.{new_servers}
 use Rattle.cluster_laws.specs.Holders.{AreBound}
 use Rattle.cluster_laws.proofs.Lists.{all_more}
-use Rattle.copied_bytes.proofs.Stories.{Story, AreEach, each_at, IsMoment}
-use Rattle.copied_bytes.proofs.MoveCases.{Cases}
-use Rattle.copied_bytes.proofs.MoveRuns.{RunDone, run_done}
-use Rattle.copied_bytes.proofs.WriterFacts.{KnowsWriters, IsWrittenSo}
-use Rattle.copied_bytes.proofs.WriterCases.{writer_cases}
-use Rattle.copied_bytes.proofs.WriterRuns.{first_story, first_moment, no_files}
+use Rattle.machine_walk.proofs.Stories.{Story, AreEach, each_at, IsMoment}
+use Rattle.machine_walk.proofs.MoveCases.{Cases}
+use Rattle.machine_walk.proofs.MoveRuns.{RunDone, run_done}
+use Rattle.machine_walk.proofs.WriterFacts.{KnowsWriters, IsWrittenSo}
+use Rattle.machine_walk.proofs.WriterCases.{writer_cases}
+use Rattle.machine_walk.proofs.WriterRuns.{first_story, first_moment, no_files}
 use Rattle.copied_bytes.proofs.SourceSteps.{its_kind}
 use Rattle.copied_bytes.proofs.LiveSteps.{called_none}
 use Rattle.copied_bytes.specs.CopiedBytes.{FreesAlike}
@@ -88,7 +88,7 @@ module _ (calls : (s : ServerState) (caller : Caller) (call : DsCallValue) → I
     uses = λ t m journal at p node n xid uid gid call may new bound. (lives.uses t m journal at p.0 node n xid uid gid call may new bound, record { alike = p.1.alike; unused = p.1.unused });
     takes = λ t m journal at p file uid pos bytes bound. (((lives.takes t m journal at p.0 file uid pos bytes bound).0, noted t m journal at p (entry.Sent file (a_uid uid) pos bytes) refl (λ id c. refl) (λ f us. refl)), (tt, tt));
     strays = λ t m journal at p file uid pos bytes bound. (((lives.strays t m journal at p.0 file uid pos bytes bound).0, noted t m journal at p (entry.Rogue file (a_uid uid) pos bytes) refl (λ id c. refl) (λ f us. refl)), (tt, tt));
-    tells = λ t m journal at p file uid pos bytes. (((lives.tells t m journal at p.0 file uid pos bytes).0, noted t m journal at p (entry.Told file (a_uid uid) pos bytes) refl (λ id c. refl) (λ f us. refl)), (tt, tt));
+    tells = λ t m journal at p file uid pos bytes bound. (((lives.tells t m journal at p.0 file uid pos bytes bound).0, noted t m journal at p (entry.Told file (a_uid uid) pos bytes) refl (λ id c. refl) (λ f us. refl)), (tt, tt));
     creates = λ t m journal at p servers may h. (
       lives.creates t m journal at p.0 servers may h,
       record {

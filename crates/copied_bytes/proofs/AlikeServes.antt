@@ -11,8 +11,8 @@ use Rattle.cluster_model.specs.Journal.{Copy, content_of}
 use Rattle.cluster_model.specs.Phases.{ids_of}
 use Rattle.cluster_laws.proofs.Lists.{all_append, all_more}
 use Rattle.copied_bytes.specs.CopiedBytes.{users_since}
-use Rattle.copied_bytes.proofs.Stories.{Story, AreEach}
-use Rattle.copied_bytes.proofs.Placed.{each_anywhere}
+use Rattle.machine_walk.proofs.Stories.{Story, AreEach}
+use Rattle.machine_walk.proofs.Placed.{each_anywhere}
 use Rattle.copied_bytes.proofs.Wholes.{IsWhole}
 use Rattle.copied_bytes.proofs.TargetTurns.{all_both}
 use Rattle.std.proofs.Common.{◌≡◌, ℕ, ◌+◌, Bool, true, false, List, [], ◌∷◌, ◌++◌, length, Option, Some, None, refl, sym, ap, subst, ◌∙◌, inl, inr, arith}
@@ -33,9 +33,9 @@ use Rattle.cluster_laws.proofs.Journals.{copy_append, content_same}
 use Rattle.cluster_laws.proofs.NewFiles.{pushed}
 use Rattle.cluster_laws.proofs.Invariant.{Holds}
 use Rattle.cluster_laws.proofs.PeriodFacts.{granted_in}
-use Rattle.copied_bytes.proofs.Stories.{IsOnward, IsMoment, drawn_story, onward_drawn}
-use Rattle.copied_bytes.proofs.WriterFacts.{KnowsWriters, IsWrittenSo}
-use Rattle.copied_bytes.proofs.WriterCases.{not_drawn}
+use Rattle.machine_walk.proofs.Stories.{IsOnward, IsMoment, drawn_story, onward_drawn}
+use Rattle.machine_walk.proofs.WriterFacts.{KnowsWriters, IsWrittenSo}
+use Rattle.machine_walk.proofs.WriterCases.{not_drawn}
 use Rattle.copied_bytes.proofs.Wholes.{whole_after}
 use Rattle.copied_bytes.proofs.Parts.{put_became, put_whole}
 use Rattle.copied_bytes.proofs.Sources.{owner_of, GoesOnWith, unused_from}
@@ -49,7 +49,7 @@ use Rattle.copied_bytes.proofs.LiveCopies.{IsWholeCopy, is_made, live_made}
 use Rattle.copied_bytes.proofs.LiveServes.{whole_put}
 use Rattle.copied_bytes.proofs.Replaced.{NoneLost}
 use Rattle.copied_bytes.proofs.SinceFree.{IsUserless, users_same, users_on}
-use Rattle.copied_bytes.proofs.WriterFacts.{IsKnownPacket}
+use Rattle.machine_walk.proofs.WriterFacts.{IsKnownPacket}
 use Rattle.copied_bytes.proofs.TargetFacts.{IsPiecePacket}
 use Rattle.copied_bytes.proofs.TargetCases.{piece_known}
 use Rattle.copied_bytes.proofs.TargetTurns.{all_both}

@@ -8,19 +8,19 @@ use Rattle.cluster_model.specs.Journal.{Copy, content_of}
 use Rattle.cluster_model.specs.Phases.{ids_of}
 use Rattle.file_rule.specs.declared.fresh.Fresh.{Fresh}
 use Rattle.cluster_laws.proofs.Lists.{all_more}
-use Rattle.copied_bytes.proofs.Stories.{Story, AreEach}
-use Rattle.copied_bytes.proofs.StepKinds.{StepKind, Rests, Learnt, Recalled, Grants, Ends, Resilvers, MakingTurns, MakingDone, FenceTurns, FenceLoses, FenceDone, SettleTurns, SettleLoses, SettleFrees, CopyBegins, CopyTurns, CopyLoses, TargetLost, CopyFrees, CopySwaps}
+use Rattle.machine_walk.proofs.Stories.{Story, AreEach}
+use Rattle.machine_walk.proofs.StepKinds.{StepKind, Rests, Learnt, Recalled, Grants, Ends, Resilvers, MakingTurns, MakingDone, FenceTurns, FenceLoses, FenceDone, SettleTurns, SettleLoses, SettleFrees, CopyBegins, CopyTurns, CopyLoses, TargetLost, CopyFrees, CopySwaps}
 use Rattle.copied_bytes.proofs.Wholes.{IsWhole}
 use Rattle.std.proofs.Common.{◌≡◌, ℕ, ◌+◌, ◌-◌, ◌<◌, true, false, List, ◌++◌, set, Some, refl, sym, ap, subst, ◌∙◌, arith}
 use Rattle.cluster_model.specs.declared.ids.NodeId.TheVariants.{Mds}
 use Rattle.file_rule.specs.MdsFiles.{Activity, Idle, Makes, Fences, Settles, Copies, MdsFile, FileStep}
 use Rattle.file_rule.specs.FilePhases.{FileInput, phase}
 use Rattle.cluster_laws.specs.Machine.{Machine, numbered_at, file_id, fresh_of}
-use Rattle.copied_bytes.proofs.Stories.{IsMoment}
-use Rattle.copied_bytes.proofs.MoveCases.{IsStepBy}
-use Rattle.copied_bytes.proofs.Placed.{files_set}
-use Rattle.copied_bytes.proofs.Writers.{HasUids}
-use Rattle.copied_bytes.proofs.WriterFacts.{KnowsWriters}
+use Rattle.machine_walk.proofs.Stories.{IsMoment}
+use Rattle.machine_walk.proofs.MoveCases.{IsStepBy}
+use Rattle.machine_walk.proofs.Placed.{files_set}
+use Rattle.machine_walk.proofs.Writers.{HasUids}
+use Rattle.machine_walk.proofs.WriterFacts.{KnowsWriters}
 use Rattle.copied_bytes.proofs.Sources.{owner_of, IsUnusedFrom, IsShut, IsBusySo, shut_in, GoesOnWith, unused_from}
 use Rattle.copied_bytes.proofs.SourceCarry.{KnowsSources}
 use Rattle.copied_bytes.proofs.SourceKinds.{is_grant}

@@ -33,12 +33,12 @@ use Rattle.cluster_laws.proofs.Lists.{all_append, all_more, all_any}
 use Rattle.cluster_laws.proofs.Lives.{own_file, ids_but_for}
 use Rattle.cluster_laws.proofs.Invariant.{live_of, is_answered}
 use Rattle.copied_bytes.specs.CopiedBytes.{users_since}
-use Rattle.copied_bytes.proofs.Stories.{Story, AreEach}
-use Rattle.copied_bytes.proofs.MoveCases.{IsHeard}
-use Rattle.copied_bytes.proofs.Placed.{each_anywhere}
+use Rattle.machine_walk.proofs.Stories.{Story, AreEach}
+use Rattle.machine_walk.proofs.MoveCases.{IsHeard}
+use Rattle.machine_walk.proofs.Placed.{each_anywhere}
 use Rattle.copied_bytes.proofs.CallsKept.{reply_so}
-use Rattle.copied_bytes.proofs.StepKinds.{IsEndOf, copy_turned, lost_by, BeginsWithLoss, IsAlike, IsLeaving, OneLeft, OneTold, IsTakenWith, NoWrite, OneWrite, IsSettledBy, StepKind, Rests, Learnt, Recalled, Grants, Ends, Resilvers, MakingTurns, MakingDone, FenceTurns, FenceLoses, FenceDone, SettleTurns, SettleLoses, SettleFrees, CopyBegins, CopyTurns, CopyLoses, TargetLost, CopyFrees, CopySwaps}
-use Rattle.copied_bytes.proofs.Writers.{same_copier}
+use Rattle.machine_walk.proofs.StepKinds.{IsEndOf, copy_turned, lost_by, BeginsWithLoss, IsAlike, IsLeaving, OneLeft, OneTold, IsTakenWith, NoWrite, OneWrite, IsSettledBy, StepKind, Rests, Learnt, Recalled, Grants, Ends, Resilvers, MakingTurns, MakingDone, FenceTurns, FenceLoses, FenceDone, SettleTurns, SettleLoses, SettleFrees, CopyBegins, CopyTurns, CopyLoses, TargetLost, CopyFrees, CopySwaps}
+use Rattle.machine_walk.proofs.Writers.{same_copier}
 use Rattle.copied_bytes.proofs.Wholes.{IsWhole}
 use Rattle.copied_bytes.proofs.Sources.{owner_of, is_shut_phase, IsCommitReply, SettlesSo, CopiesSo}
 use Rattle.copied_bytes.proofs.SourceKinds.{but_for_all, turned_copy, shut_without}

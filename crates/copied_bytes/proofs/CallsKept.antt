@@ -9,7 +9,7 @@ use Rattle.cluster_laws.specs.Machine.{PacketValue, Call, Reply}
 use Rattle.cluster_laws.proofs.Lists.{all_append, all_more, all_at}
 use Rattle.cluster_laws.proofs.Invariant.{Net, IsThisCall, AreThisCall, IsPacket}
 use Rattle.cluster_laws.proofs.CallsOut.{only_call}
-use Rattle.copied_bytes.proofs.MoveCases.{HasReply}
+use Rattle.machine_walk.proofs.MoveCases.{HasReply}
 
 abbrev pub IsReplySo : (DsReplyValue → Type 0) → ℕ → PacketValue → Type 0
 IsReplySo R xid (Call from server number uid gid call) = Unit {0}

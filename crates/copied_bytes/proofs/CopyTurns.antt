@@ -17,9 +17,9 @@ use Rattle.file_rule.specs.FilePhases.{FileInput, Answers, TimesOut, Ticks}
 use Rattle.cluster_laws.specs.Machine.{PacketValue}
 use Rattle.cluster_laws.proofs.Lists.{all_at, all_set}
 use Rattle.cluster_laws.proofs.Lives.{all_map}
-use Rattle.copied_bytes.proofs.MoveCases.{HasReply, IsHeard}
-use Rattle.copied_bytes.proofs.Stories.{Story}
-use Rattle.copied_bytes.proofs.StepKinds.{copy_turned}
+use Rattle.machine_walk.proofs.MoveCases.{HasReply, IsHeard}
+use Rattle.machine_walk.proofs.Stories.{Story}
+use Rattle.machine_walk.proofs.StepKinds.{copy_turned}
 use Rattle.copied_bytes.proofs.CallsKept.{reply_so}
 use Rattle.copied_bytes.proofs.Slices.{slice_next}
 use Rattle.copied_bytes.proofs.Sources.{IsNotFirst, IsReadReply, CopiesFrom}

@@ -1,16 +1,3 @@
-mod Stories
-mod MoveCases
-mod MoveRuns
-mod StepKinds
-mod StepsByKind
-mod Writers
-mod Noted
-mod WriterFacts
-mod Placed
-mod WriterSteps
-mod WriterServes
-mod WriterCases
-mod WriterRuns
 mod ServerPlans
 mod Wholes
 mod CallsKept

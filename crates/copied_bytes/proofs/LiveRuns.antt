@@ -16,17 +16,18 @@ use Rattle.cluster_laws.specs.FenceLaw.{new_servers}
 use Rattle.cluster_laws.specs.Periods.{was_granted}
 use Rattle.cluster_laws.specs.Holders.{the_write, AreBound}
 use Rattle.cluster_laws.proofs.Lists.{all_more}
-use Rattle.copied_bytes.specs.CopiedBytes.{IsUsersWrite, LeavesAsShown, CopiesLeaveAsShown}
-use Rattle.copied_bytes.proofs.Stories.{Story, AreEach, each_at, IsMoment}
-use Rattle.copied_bytes.proofs.MoveCases.{IsStepBy, Cases}
-use Rattle.copied_bytes.proofs.MoveRuns.{RunDone, run_done}
-use Rattle.copied_bytes.proofs.Placed.{each_anywhere}
-use Rattle.copied_bytes.proofs.StepKinds.{IsTakenWith, NoWrite, OneWrite}
-use Rattle.copied_bytes.proofs.Writers.{is_applied, IsSilent, IsGrantOf, grant_or}
-use Rattle.copied_bytes.proofs.WriterFacts.{KnowsWriters, IsWrittenSo}
-use Rattle.copied_bytes.proofs.WriterCases.{writer_cases}
-use Rattle.copied_bytes.proofs.WriterRuns.{first_story, first_moment, first_writers}
-use Rattle.copied_bytes.proofs.Noted.{granted_on}
+use Rattle.machine_walk.specs.Owners.{IsUsersWrite}
+use Rattle.copied_bytes.specs.CopiedBytes.{LeavesAsShown, CopiesLeaveAsShown}
+use Rattle.machine_walk.proofs.Stories.{Story, AreEach, each_at, IsMoment}
+use Rattle.machine_walk.proofs.MoveCases.{IsStepBy, Cases}
+use Rattle.machine_walk.proofs.MoveRuns.{RunDone, run_done}
+use Rattle.machine_walk.proofs.Placed.{each_anywhere}
+use Rattle.machine_walk.proofs.StepKinds.{IsTakenWith, NoWrite, OneWrite}
+use Rattle.machine_walk.proofs.Writers.{is_applied, IsSilent, IsGrantOf, grant_or}
+use Rattle.machine_walk.proofs.WriterFacts.{KnowsWriters, IsWrittenSo}
+use Rattle.machine_walk.proofs.WriterCases.{writer_cases}
+use Rattle.machine_walk.proofs.WriterRuns.{first_story, first_moment, first_writers}
+use Rattle.machine_walk.proofs.Noted.{granted_on}
 use Rattle.copied_bytes.proofs.SourceSteps.{its_kind}
 use Rattle.copied_bytes.proofs.SourceCarry.{KnowsSources}
 use Rattle.copied_bytes.proofs.SourceRuns.{first_sources}
@@ -86,7 +87,7 @@ module _ (calls : (s : ServerState) (caller : Caller) (call : DsCallValue) → I
     uses = λ t m journal at p node n xid uid gid call may new bound. (all.uses t m journal at p.0 node n xid uid gid call may new bound, record { copies = p.1.copies; absent = p.1.absent });
     takes = λ t m journal at p file uid pos bytes bound. (((all.takes t m journal at p.0 file uid pos bytes bound).0, noted_live t m journal p.1 (entry.Sent file (a_uid uid) pos bytes) (λ id c. refl) (λ k x. refl)), (tt, tt));
     strays = λ t m journal at p file uid pos bytes bound. (((all.strays t m journal at p.0 file uid pos bytes bound).0, noted_live t m journal p.1 (entry.Rogue file (a_uid uid) pos bytes) (λ id c. refl) (λ k x. refl)), (tt, tt));
-    tells = λ t m journal at p file uid pos bytes. (((all.tells t m journal at p.0 file uid pos bytes).0, noted_live t m journal p.1 (entry.Told file (a_uid uid) pos bytes) (λ id c. refl) (λ k x. refl)), (tt, tt));
+    tells = λ t m journal at p file uid pos bytes bound. (((all.tells t m journal at p.0 file uid pos bytes bound).0, noted_live t m journal p.1 (entry.Told file (a_uid uid) pos bytes) (λ id c. refl) (λ k x. refl)), (tt, tt));
     creates = λ t m journal at p servers may h. (all.creates t m journal at p.0 servers may h, created_live t m journal p.1 servers p.0.1.bound);
   }
 

@@ -23,10 +23,11 @@ use Rattle.cluster_laws.specs.Holders.{the_write}
 use Rattle.cluster_laws.proofs.Lists.{all_append, all_more, all_at, same_numbered}
 use Rattle.cluster_laws.proofs.Journals.{copy_append}
 use Rattle.cluster_laws.proofs.Facts.{OwnedFrom}
-use Rattle.copied_bytes.specs.CopiedBytes.{IsUsersWrite, LeavesAsShown}
-use Rattle.copied_bytes.proofs.Stories.{Story, AreEach, IsMoment}
-use Rattle.copied_bytes.proofs.Writers.{IsCopier, is_applied}
-use Rattle.copied_bytes.proofs.WriterFacts.{KnowsWriters, IsKnownPacket, IsWrittenSo}
+use Rattle.machine_walk.specs.Owners.{IsUsersWrite}
+use Rattle.copied_bytes.specs.CopiedBytes.{LeavesAsShown}
+use Rattle.machine_walk.proofs.Stories.{Story, AreEach, IsMoment}
+use Rattle.machine_walk.proofs.Writers.{IsCopier, is_applied}
+use Rattle.machine_walk.proofs.WriterFacts.{KnowsWriters, IsKnownPacket, IsWrittenSo}
 use Rattle.copied_bytes.proofs.ServerPlans.{PlanKind, Refused, WroteTo, CommittedAt, SetTo, ReadFrom, WasThere, NewMade, plan_kind}
 use Rattle.copied_bytes.proofs.Wholes.{IsWhole, whole_shown, whole_by, whole_after, is_that}
 use Rattle.copied_bytes.proofs.Slices.{IsSlice, slice_no_change}

@@ -13,10 +13,10 @@ use Rattle.cluster_laws.specs.Machine.{Machine, numbered_at, file_id, fresh_of}
 use Rattle.cluster_laws.specs.FenceLaw.{live_after, live_in}
 use Rattle.cluster_laws.proofs.Lists.{all_more, place_of, at_number, put_same, put_other}
 use Rattle.cluster_laws.proofs.Journals.{live_same, content_same}
-use Rattle.copied_bytes.proofs.Stories.{Story, drawn_story, IsOnward, onward_drawn, AreEach, IsMoment}
-use Rattle.copied_bytes.proofs.MoveCases.{after_step, created_machine, IsStepBy}
-use Rattle.copied_bytes.proofs.WriterFacts.{KnowsWriters}
-use Rattle.copied_bytes.proofs.WriterCases.{on}
+use Rattle.machine_walk.proofs.Stories.{Story, drawn_story, IsOnward, onward_drawn, AreEach, IsMoment}
+use Rattle.machine_walk.proofs.MoveCases.{after_step, created_machine, IsStepBy}
+use Rattle.machine_walk.proofs.WriterFacts.{KnowsWriters}
+use Rattle.machine_walk.proofs.WriterCases.{on}
 use Rattle.copied_bytes.proofs.Wholes.{IsWhole}
 use Rattle.copied_bytes.proofs.Sources.{owner_of, IsShut, shut_in}
 use Rattle.copied_bytes.proofs.SourceCarry.{KnowsSources}

@@ -22,7 +22,7 @@ use Rattle.copy_rule.specs.declared.copy_target.CopyStep.TheVariants as copy_ste
 use Rattle.file_rule.specs.MdsFiles.{replacing}
 use Rattle.file_rule.specs.FilePhases.{FileInput, Answers, TimesOut, Ticks}
 use Rattle.cluster_laws.proofs.Lives.{itself}
-use Rattle.copied_bytes.proofs.StepKinds.{lost_by, copy_turned}
+use Rattle.machine_walk.proofs.StepKinds.{lost_by, copy_turned}
 
 -- a target that is not given up replaces the mirror
 pub record IsToReplace (x : CopyTarget) (id : MirrorId) : Type 0 where

@@ -26,7 +26,7 @@ use Rattle.cluster_laws.specs.Agreement.{cause_in, causes_of}
 use Rattle.cluster_laws.proofs.Lists.{all_append, all_more}
 use Rattle.cluster_laws.proofs.Lives.{own_file}
 use Rattle.copied_bytes.specs.CopiedBytes.{users_behind, users_by, users_since, EndedDirty}
-use Rattle.copied_bytes.proofs.StepKinds.{IsEndOf, IsLeaving, OneLeft, OneTold, IsTakenWith, NoWrite, OneWrite, StepKind, Rests, Learnt, Recalled, Grants, Ends, Resilvers, MakingTurns, MakingDone, FenceTurns, FenceLoses, FenceDone, SettleTurns, SettleLoses, SettleFrees, CopyBegins, CopyTurns, CopyLoses, TargetLost, CopyFrees, CopySwaps}
+use Rattle.machine_walk.proofs.StepKinds.{IsEndOf, IsLeaving, OneLeft, OneTold, IsTakenWith, NoWrite, OneWrite, StepKind, Rests, Learnt, Recalled, Grants, Ends, Resilvers, MakingTurns, MakingDone, FenceTurns, FenceLoses, FenceDone, SettleTurns, SettleLoses, SettleFrees, CopyBegins, CopyTurns, CopyLoses, TargetLost, CopyFrees, CopySwaps}
 
 -- ---- joined journals
 

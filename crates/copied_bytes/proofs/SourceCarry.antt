@@ -23,8 +23,8 @@ use Rattle.cluster_laws.proofs.Lists.{at_place}
 use Rattle.cluster_laws.proofs.Invariant.{at_server, IsMirrorOf, IsFile, net_of, Holds}
 use Rattle.cluster_laws.proofs.KnownNow.{id_by}
 use Rattle.cluster_laws.proofs.PeriodStates.{IsMine}
-use Rattle.copied_bytes.proofs.Stories.{Story}
-use Rattle.copied_bytes.proofs.Writers.{IsPlainUid, HasUids}
+use Rattle.machine_walk.proofs.Stories.{Story}
+use Rattle.machine_walk.proofs.Writers.{IsPlainUid, HasUids}
 use Rattle.copied_bytes.proofs.Wholes.{IsWhole}
 use Rattle.copied_bytes.proofs.Slices.{IsSlice}
 use Rattle.copied_bytes.proofs.CallsKept.{IsOutSo}

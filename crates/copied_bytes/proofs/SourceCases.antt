@@ -33,12 +33,12 @@ use Rattle.cluster_laws.proofs.Draws.{new_home, new_low}
 use Rattle.cluster_laws.proofs.NewFiles.{pushed, pushed_length}
 use Rattle.cluster_laws.proofs.CallsOut.{mds_call}
 use Rattle.cluster_laws.proofs.Names.{name_is}
-use Rattle.copied_bytes.proofs.Stories.{Story, drawn_story, IsOnward, onward_drawn, IsMoment}
-use Rattle.copied_bytes.proofs.MoveCases.{after_call, created_machine}
-use Rattle.copied_bytes.proofs.Placed.{files_set, IfCall, its_call}
-use Rattle.copied_bytes.proofs.Writers.{IsPlainUid, HasUids, mine_on, plain_on}
-use Rattle.copied_bytes.proofs.WriterFacts.{KnowsWriters}
-use Rattle.copied_bytes.proofs.WriterCases.{not_drawn}
+use Rattle.machine_walk.proofs.Stories.{Story, drawn_story, IsOnward, onward_drawn, IsMoment}
+use Rattle.machine_walk.proofs.MoveCases.{after_call, created_machine}
+use Rattle.machine_walk.proofs.Placed.{files_set, IfCall, its_call}
+use Rattle.machine_walk.proofs.Writers.{IsPlainUid, HasUids, mine_on, plain_on}
+use Rattle.machine_walk.proofs.WriterFacts.{KnowsWriters}
+use Rattle.machine_walk.proofs.WriterCases.{not_drawn}
 use Rattle.copied_bytes.proofs.CallsKept.{IsOutSo, out_again, out_call, out_new}
 use Rattle.copied_bytes.proofs.Sources.{owner_of, IsCommitReply, IsReadReply, SettlesSo, CopiesSo, KeepsFile, GoesOnAt}
 use Rattle.copied_bytes.proofs.SourceCarry.{IsSetCall, IsSetPacket, AreOwnersMine, KnowsSources, IsOwnedAt, file_owned, file_nows, keeps_on}

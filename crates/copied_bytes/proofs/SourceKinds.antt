@@ -30,10 +30,10 @@ use Rattle.cluster_laws.proofs.Lists.{all_more}
 use Rattle.cluster_laws.proofs.Lives.{all_filter, ids_but_for}
 use Rattle.cluster_laws.proofs.Journals.{copy_append}
 use Rattle.cluster_laws.proofs.Invariant.{IsNotSource, AreRight}
-use Rattle.copied_bytes.proofs.MoveCases.{IsHeard}
-use Rattle.copied_bytes.proofs.Stories.{Story, begun_copy}
-use Rattle.copied_bytes.proofs.StepKinds.{copy_turned, IsAlike, IsSettledBy, StepKind, Rests, Learnt, Recalled, Grants, Ends, Resilvers, MakingTurns, MakingDone, FenceTurns, FenceLoses, FenceDone, SettleTurns, SettleLoses, SettleFrees, CopyBegins, CopyTurns, CopyLoses, TargetLost, CopyFrees, CopySwaps}
-use Rattle.copied_bytes.proofs.Writers.{HasFenceUids, HasCopyUids, HasUids, alike_uids, same_copier}
+use Rattle.machine_walk.proofs.MoveCases.{IsHeard}
+use Rattle.machine_walk.proofs.Stories.{Story, begun_copy}
+use Rattle.machine_walk.proofs.StepKinds.{copy_turned, IsAlike, IsSettledBy, StepKind, Rests, Learnt, Recalled, Grants, Ends, Resilvers, MakingTurns, MakingDone, FenceTurns, FenceLoses, FenceDone, SettleTurns, SettleLoses, SettleFrees, CopyBegins, CopyTurns, CopyLoses, TargetLost, CopyFrees, CopySwaps}
+use Rattle.machine_walk.proofs.Writers.{HasFenceUids, HasCopyUids, HasUids, alike_uids, same_copier}
 use Rattle.copied_bytes.proofs.Wholes.{IsWhole, whole_shown}
 use Rattle.copied_bytes.proofs.CallsKept.{reply_so}
 use Rattle.copied_bytes.proofs.Slices.{slice_none}

@@ -18,12 +18,12 @@ use Rattle.cluster_laws.specs.Agreement.{shown_at, bytes_of, Has}
 use Rattle.cluster_laws.specs.Holders.{AreBound}
 use Rattle.copied_bytes.specs.CopiedBytes.{HasStableSource, SwapsFromStable}
 use Rattle.cluster_laws.proofs.Invariant.{live_of, IsFile, net_of}
-use Rattle.copied_bytes.proofs.Stories.{Story, AreEach, each_at, IsMoment}
-use Rattle.copied_bytes.proofs.MoveCases.{IsStepBy, Cases}
-use Rattle.copied_bytes.proofs.MoveRuns.{RunDone, run_done}
-use Rattle.copied_bytes.proofs.WriterFacts.{KnowsWriters, IsWrittenSo}
-use Rattle.copied_bytes.proofs.WriterCases.{writer_cases}
-use Rattle.copied_bytes.proofs.WriterRuns.{first_story, first_moment, first_writers, no_files}
+use Rattle.machine_walk.proofs.Stories.{Story, AreEach, each_at, IsMoment}
+use Rattle.machine_walk.proofs.MoveCases.{IsStepBy, Cases}
+use Rattle.machine_walk.proofs.MoveRuns.{RunDone, run_done}
+use Rattle.machine_walk.proofs.WriterFacts.{KnowsWriters, IsWrittenSo}
+use Rattle.machine_walk.proofs.WriterCases.{writer_cases}
+use Rattle.machine_walk.proofs.WriterRuns.{first_story, first_moment, first_writers, no_files}
 use Rattle.copied_bytes.proofs.Wholes.{whole_has, whole_shown}
 use Rattle.copied_bytes.proofs.Sources.{IsBusySo}
 use Rattle.copied_bytes.proofs.SourceCarry.{KnowsSources}
@@ -75,7 +75,7 @@ module _ (calls : (s : ServerState) (caller : Caller) (call : DsCallValue) → I
     uses = λ t m journal at p node n xid uid gid call may new bound. (writers.uses t m journal at p.0 node n xid uid gid call may new bound, used_sources t m journal at p.0 p.1 node n xid uid gid call may new);
     takes = λ t m journal at p file uid pos bytes bound. (((writers.takes t m journal at p.0 file uid pos bytes bound).0, noted_sources t m journal at p.0 p.1 (entry.Sent file (a_uid uid) pos bytes) refl (λ id c. refl)), (tt, tt));
     strays = λ t m journal at p file uid pos bytes bound. (((writers.strays t m journal at p.0 file uid pos bytes bound).0, noted_sources t m journal at p.0 p.1 (entry.Rogue file (a_uid uid) pos bytes) refl (λ id c. refl)), (tt, tt));
-    tells = λ t m journal at p file uid pos bytes. (((writers.tells t m journal at p.0 file uid pos bytes).0, noted_sources t m journal at p.0 p.1 (entry.Told file (a_uid uid) pos bytes) refl (λ id c. refl)), (tt, tt));
+    tells = λ t m journal at p file uid pos bytes bound. (((writers.tells t m journal at p.0 file uid pos bytes bound).0, noted_sources t m journal at p.0 p.1 (entry.Told file (a_uid uid) pos bytes) refl (λ id c. refl)), (tt, tt));
     creates = λ t m journal at p servers may h. (writers.creates t m journal at p.0 servers may h, created_sources t m journal at p.0 p.1 servers h);
   }
 

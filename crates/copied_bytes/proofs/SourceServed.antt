@@ -31,11 +31,11 @@ use Rattle.cluster_laws.proofs.Changed.{goes_on}
 use Rattle.cluster_laws.proofs.RunFacts.{owner_told}
 use Rattle.cluster_laws.proofs.PeriodFacts.{granted_in}
 use Rattle.cluster_laws.proofs.PeriodStates.{IsMine}
-use Rattle.copied_bytes.proofs.Stories.{Story, AreEach, IsMoment}
+use Rattle.machine_walk.proofs.Stories.{Story, AreEach, IsMoment}
 use Rattle.copied_bytes.proofs.ServerPlans.{PlanKind, plan_kind}
-use Rattle.copied_bytes.proofs.WriterFacts.{KnowsWriters, IsWrittenSo, ungranted}
-use Rattle.copied_bytes.proofs.WriterServes.{IsOfServerOnly, server_only}
-use Rattle.copied_bytes.proofs.WriterCases.{not_drawn}
+use Rattle.machine_walk.proofs.WriterFacts.{KnowsWriters, IsWrittenSo, ungranted}
+use Rattle.machine_walk.proofs.WriterServes.{IsOfServerOnly, server_only}
+use Rattle.machine_walk.proofs.WriterCases.{not_drawn}
 use Rattle.copied_bytes.proofs.Wholes.{IsWhole, whole_after}
 use Rattle.copied_bytes.proofs.CallsKept.{IsOutSo, out_more, out_answered}
 use Rattle.copied_bytes.proofs.Sources.{owner_of, IsCommitReply, IsReadReply, KeepsFile, IsShutNow, GoesOnAt, GoesOnWith}

@@ -16,12 +16,12 @@ use Rattle.cluster_model.specs.DsCalls.{DsCallValue, SetAttr, Commit, Read, Crea
 use Rattle.cluster_model.specs.GuardLaws.{IsTold}
 use Rattle.cluster_laws.specs.Holders.{the_write}
 use Rattle.cluster_laws.specs.Periods.{was_granted}
-use Rattle.copied_bytes.specs.CopiedBytes.{IsUsersWrite}
+use Rattle.machine_walk.specs.Owners.{IsUsersWrite}
 use Rattle.cluster_laws.proofs.Lives.{itself}
 use Rattle.cluster_laws.proofs.KnownNow.{id_by}
-use Rattle.copied_bytes.proofs.Stories.{Story, AreEach}
-use Rattle.copied_bytes.proofs.Writers.{IsCopier, is_applied}
-use Rattle.copied_bytes.proofs.WriterFacts.{IsWrittenSo}
+use Rattle.machine_walk.proofs.Stories.{Story, AreEach}
+use Rattle.machine_walk.proofs.Writers.{IsCopier, is_applied}
+use Rattle.machine_walk.proofs.WriterFacts.{IsWrittenSo}
 use Rattle.copied_bytes.proofs.ServerPlans.{PlanKind, Refused, WroteTo, CommittedAt, SetTo, ReadFrom, WasThere, NewMade}
 use Rattle.copied_bytes.proofs.Wholes.{IsWhole, whole_shown, settled_whole, whole_by, is_that}
 use Rattle.copied_bytes.proofs.Slices.{slice_read, read_ends}

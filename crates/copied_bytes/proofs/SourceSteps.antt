@@ -25,14 +25,14 @@ use Rattle.cluster_laws.proofs.Invariant.{If, live_of, IsFile, net_of}
 use Rattle.cluster_laws.proofs.Draws.{new_home, new_low}
 use Rattle.cluster_laws.proofs.PeriodFacts.{granted_in, none_granted, granted_append}
 use Rattle.cluster_laws.proofs.PeriodStates.{IsMine, IsUnused, IsActive}
-use Rattle.copied_bytes.proofs.Stories.{Story, IsOnward, IsMoment}
-use Rattle.copied_bytes.proofs.MoveCases.{Drew, DrewNone, DrewOne, after_step, IsStepBy}
-use Rattle.copied_bytes.proofs.Placed.{files_set}
-use Rattle.copied_bytes.proofs.StepKinds.{IsTakenWith, NoWrite, OneWrite, StepKind}
-use Rattle.copied_bytes.proofs.Writers.{IsPlainUid, mine_on, plain_on, has_calls, IsSilent, IsGrantOf, busy_silent, grant_or, HasUids}
-use Rattle.copied_bytes.proofs.WriterFacts.{KnowsWriters, ungranted}
-use Rattle.copied_bytes.proofs.WriterSteps.{drew_new}
-use Rattle.copied_bytes.proofs.WriterCases.{not_drawn, on, kind, granted_then}
+use Rattle.machine_walk.proofs.Stories.{Story, IsOnward, IsMoment}
+use Rattle.machine_walk.proofs.MoveCases.{Drew, DrewNone, DrewOne, after_step, IsStepBy}
+use Rattle.machine_walk.proofs.Placed.{files_set}
+use Rattle.machine_walk.proofs.StepKinds.{IsTakenWith, NoWrite, OneWrite, StepKind}
+use Rattle.machine_walk.proofs.Writers.{IsPlainUid, mine_on, plain_on, has_calls, IsSilent, IsGrantOf, busy_silent, grant_or, HasUids}
+use Rattle.machine_walk.proofs.WriterFacts.{KnowsWriters, ungranted}
+use Rattle.machine_walk.proofs.WriterSteps.{drew_new}
+use Rattle.machine_walk.proofs.WriterCases.{not_drawn, on, kind, granted_then}
 use Rattle.copied_bytes.proofs.Wholes.{IsWhole}
 use Rattle.copied_bytes.proofs.Sources.{owner_of, IsUnusedFrom, IsShut, shut_in, shut_by, IsBusySo, KeepsFile, GoesOnAt, GoesOnWith, all_shut_on}
 use Rattle.copied_bytes.proofs.SourceCarry.{IsSetCall, IsSetPacket, AreOwnersMine, KnowsSources, IsOwnedAt, file_owned, has_source, is_making, file_nows, busy_on, keeps_on}

@@ -17,7 +17,7 @@ use Rattle.copy_rule.specs.declared.copy_target.CopyTarget.{CopyTarget}
 use Rattle.file_rule.specs.MdsFiles.{Activity, Idle, Makes, Fences, Settles, Copies}
 use Rattle.cluster_laws.specs.Machine.{PacketValue}
 use Rattle.cluster_laws.proofs.PeriodStates.{IsMine, IsUnused}
-use Rattle.copied_bytes.proofs.Stories.{Story}
+use Rattle.machine_walk.proofs.Stories.{Story}
 use Rattle.copied_bytes.proofs.Wholes.{IsWhole}
 use Rattle.copied_bytes.proofs.Slices.{IsSlice}
 use Rattle.copied_bytes.proofs.CallsKept.{IsOutSo}

@@ -26,10 +26,10 @@ use Rattle.cluster_laws.specs.FenceLaw.{live_in, live_after, changed_live, swapp
 use Rattle.cluster_laws.proofs.Lists.{all_append, all_more}
 use Rattle.cluster_laws.proofs.Lives.{own_file, ids_but_for}
 use Rattle.cluster_laws.proofs.Journals.{live_append, copy_append}
-use Rattle.copied_bytes.proofs.MoveCases.{IsHeard}
-use Rattle.copied_bytes.proofs.Placed.{each_anywhere}
-use Rattle.copied_bytes.proofs.Stories.{Story, AreEach}
-use Rattle.copied_bytes.proofs.StepKinds.{IsAlike, IsLeaving, OneLeft, OneTold, IsTakenWith, NoWrite, OneWrite, StepKind, Rests, Learnt, Recalled, Grants, Ends, Resilvers, MakingTurns, MakingDone, FenceTurns, FenceLoses, FenceDone, SettleTurns, SettleLoses, SettleFrees, CopyBegins, CopyTurns, CopyLoses, TargetLost, CopyFrees, CopySwaps}
+use Rattle.machine_walk.proofs.MoveCases.{IsHeard}
+use Rattle.machine_walk.proofs.Placed.{each_anywhere}
+use Rattle.machine_walk.proofs.Stories.{Story, AreEach}
+use Rattle.machine_walk.proofs.StepKinds.{IsAlike, IsLeaving, OneLeft, OneTold, IsTakenWith, NoWrite, OneWrite, StepKind, Rests, Learnt, Recalled, Grants, Ends, Resilvers, MakingTurns, MakingDone, FenceTurns, FenceLoses, FenceDone, SettleTurns, SettleLoses, SettleFrees, CopyBegins, CopyTurns, CopyLoses, TargetLost, CopyFrees, CopySwaps}
 use Rattle.copied_bytes.proofs.Wholes.{IsWhole}
 use Rattle.copied_bytes.proofs.Sources.{IsNotFirst, CopiesSo}
 use Rattle.copied_bytes.proofs.SourceKinds.{turned_copy, left_copy}

@@ -4,7 +4,7 @@ use Rattle.std.specs.Prelude.{slice_get}
 use Rattle.std.specs.List.{AllByRecursion, list_all}
 use Rattle.std.proofs.lemmas.Option.{same_Some}
 use Rattle.cluster_laws.proofs.Lists.{found_at}
-use Rattle.copied_bytes.proofs.WriterCases.{not_drawn}
+use Rattle.machine_walk.proofs.WriterCases.{not_drawn}
 use Rattle.std.proofs.lemmas.Bool.{cond_both, cases_lt, eqb-true, and_parts, ltb-true}
 use Rattle.cluster_model.specs.declared.ids.NodeId.{NodeId}
 use Rattle.cluster_model.specs.declared.ids.NodeId.TheVariants.{Mds, Server, Client}
@@ -34,11 +34,11 @@ use Rattle.cluster_laws.specs.Holders.{the_write, IsBoundCall}
 use Rattle.cluster_laws.specs.Periods.{was_granted}
 use Rattle.cluster_laws.proofs.Lists.{all_append, all_more, all_at, all_set, all_any}
 use Rattle.cluster_laws.proofs.Invariant.{IsTargetOf, IsFile, net_of}
-use Rattle.copied_bytes.proofs.Stories.{Story, IsMoment}
-use Rattle.copied_bytes.proofs.MoveCases.{after_call}
-use Rattle.copied_bytes.proofs.Placed.{files_set, IfCall, its_call}
-use Rattle.copied_bytes.proofs.Noted.{noter}
-use Rattle.copied_bytes.proofs.WriterFacts.{IsWriteCall, KnowsWriters}
+use Rattle.machine_walk.proofs.Stories.{Story, IsMoment}
+use Rattle.machine_walk.proofs.MoveCases.{after_call}
+use Rattle.machine_walk.proofs.Placed.{files_set, IfCall, its_call}
+use Rattle.machine_walk.proofs.Noted.{noter}
+use Rattle.machine_walk.proofs.WriterFacts.{IsWriteCall, KnowsWriters}
 use Rattle.copied_bytes.proofs.CallsKept.{IsOutSo, out_again, out_call, out_new}
 use Rattle.copied_bytes.proofs.Slices.{IsSlice}
 use Rattle.copied_bytes.proofs.Parts.{IsPart, IsPut}

@@ -15,7 +15,7 @@ use Rattle.cluster_laws.specs.Machine.{PacketValue, Call, Reply, Machine, number
 use Rattle.cluster_laws.proofs.Lists.{all_more}
 use Rattle.cluster_laws.proofs.Invariant.{IsTargetOf, IsFile, net_of, Holds}
 use Rattle.cluster_laws.proofs.PeriodStates.{IsMine}
-use Rattle.copied_bytes.proofs.Stories.{Story}
+use Rattle.machine_walk.proofs.Stories.{Story}
 use Rattle.copied_bytes.proofs.CallsKept.{IsOutSo, out_more}
 use Rattle.copied_bytes.proofs.Parts.{IsPart, IsPut}
 use Rattle.copied_bytes.proofs.Sources.{owner_of}

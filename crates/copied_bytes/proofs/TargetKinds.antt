@@ -14,10 +14,10 @@ use Rattle.file_rule.specs.declared.fresh.Fresh.{Fresh}
 use Rattle.file_rule.specs.FilePhases.{FileInput}
 use Rattle.cluster_laws.specs.Machine.{PacketValue, file_id}
 use Rattle.cluster_laws.specs.Agreement.{bytes_of}
-use Rattle.copied_bytes.proofs.MoveCases.{IsHeard}
-use Rattle.copied_bytes.proofs.Stories.{Story, begun_copy}
-use Rattle.copied_bytes.proofs.StepKinds.{copy_turned, StepKind, Rests, Learnt, Recalled, Grants, Ends, Resilvers, MakingTurns, MakingDone, FenceTurns, FenceLoses, FenceDone, SettleTurns, SettleLoses, SettleFrees, CopyBegins, CopyTurns, CopyLoses, TargetLost, CopyFrees, CopySwaps}
-use Rattle.copied_bytes.proofs.Writers.{same_copier}
+use Rattle.machine_walk.proofs.MoveCases.{IsHeard}
+use Rattle.machine_walk.proofs.Stories.{Story, begun_copy}
+use Rattle.machine_walk.proofs.StepKinds.{copy_turned, StepKind, Rests, Learnt, Recalled, Grants, Ends, Resilvers, MakingTurns, MakingDone, FenceTurns, FenceLoses, FenceDone, SettleTurns, SettleLoses, SettleFrees, CopyBegins, CopyTurns, CopyLoses, TargetLost, CopyFrees, CopySwaps}
+use Rattle.machine_walk.proofs.Writers.{same_copier}
 use Rattle.copied_bytes.proofs.TargetTurns.{IsSiteOf, IsTargetKept, IsMadeThen, targets_turn}
 use Rattle.copied_bytes.proofs.TargetFacts.{KeepsTargets}
 

@@ -23,8 +23,8 @@ use Rattle.cluster_laws.proofs.Lists.{all_append, all_at}
 use Rattle.cluster_laws.proofs.Invariant.{IsPacket, IsFile, net_of, Holds}
 use Rattle.cluster_laws.proofs.RunFacts.{owner_told}
 use Rattle.cluster_laws.proofs.Served.{later as served_later}
-use Rattle.copied_bytes.proofs.Stories.{Story, AreEach, IsMoment}
-use Rattle.copied_bytes.proofs.WriterFacts.{IsKnownPacket, KnowsWriters, IsWrittenSo}
+use Rattle.machine_walk.proofs.Stories.{Story, AreEach, IsMoment}
+use Rattle.machine_walk.proofs.WriterFacts.{IsKnownPacket, KnowsWriters, IsWrittenSo}
 use Rattle.copied_bytes.proofs.ServerPlans.{PlanKind, plan_kind}
 use Rattle.copied_bytes.proofs.CallsKept.{out_answered}
 use Rattle.copied_bytes.proofs.Parts.{IsPart, IsPut, put_became}

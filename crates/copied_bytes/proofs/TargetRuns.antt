@@ -17,12 +17,12 @@ use Rattle.cluster_laws.specs.FenceLaw.{new_servers}
 use Rattle.cluster_laws.specs.Agreement.{shown_at, bytes_of, Has}
 use Rattle.cluster_laws.specs.Holders.{AreBound, the_write}
 use Rattle.copied_bytes.specs.CopiedBytes.{IsCopyOfAll, SwapsInAlike}
-use Rattle.copied_bytes.proofs.Stories.{each_weaker, Story, AreEach, each_at, IsMoment, drawn_story, IsOnward, onward_drawn}
-use Rattle.copied_bytes.proofs.MoveCases.{Cases, created_machine}
-use Rattle.copied_bytes.proofs.MoveRuns.{RunDone, run_done}
-use Rattle.copied_bytes.proofs.WriterFacts.{KnowsWriters, IsWrittenSo, IsKnownPacket, IsWriteCall}
-use Rattle.copied_bytes.proofs.WriterCases.{writer_cases, not_drawn}
-use Rattle.copied_bytes.proofs.WriterRuns.{first_story, first_moment, first_writers, no_files}
+use Rattle.machine_walk.proofs.Stories.{each_weaker, Story, AreEach, each_at, IsMoment, drawn_story, IsOnward, onward_drawn}
+use Rattle.machine_walk.proofs.MoveCases.{Cases, created_machine}
+use Rattle.machine_walk.proofs.MoveRuns.{RunDone, run_done}
+use Rattle.machine_walk.proofs.WriterFacts.{KnowsWriters, IsWrittenSo, IsKnownPacket, IsWriteCall}
+use Rattle.machine_walk.proofs.WriterCases.{writer_cases, not_drawn}
+use Rattle.machine_walk.proofs.WriterRuns.{first_story, first_moment, first_writers, no_files}
 use Rattle.copied_bytes.proofs.Wholes.{whole_has, whole_shown}
 use Rattle.copied_bytes.proofs.Sources.{owner_of}
 use Rattle.copied_bytes.proofs.SourceCarry.{KnowsSources}
@@ -30,8 +30,8 @@ use Rattle.std.proofs.lemmas.Bool.{cases_lt, eq-eqb}
 use Rattle.cluster_laws.proofs.PeriodStates.{IsMine}
 use Rattle.cluster_laws.proofs.NewFiles.{pushed}
 use Rattle.cluster_laws.specs.Periods.{was_granted}
-use Rattle.copied_bytes.proofs.Writers.{IsCopier, copier_on, HasUids}
-use Rattle.copied_bytes.proofs.Noted.{noter}
+use Rattle.machine_walk.proofs.Writers.{IsCopier, copier_on, HasUids}
+use Rattle.machine_walk.proofs.Noted.{noter}
 use Rattle.copied_bytes.proofs.Parts.{IsPart}
 use Rattle.copied_bytes.proofs.TargetTurns.{IsSiteOf, all_both}
 use Rattle.copied_bytes.proofs.TargetFacts.{IsPieceFor, IsPiecePacket, KeepsTargets, KnowsTargets, targets_on}
@@ -42,7 +42,7 @@ use Rattle.copied_bytes.proofs.TargetSteps.{stepped_targets, stepped_whole}
 use Rattle.copied_bytes.proofs.TargetMoves.{served_targets, restarted_targets}
 use Rattle.cluster_model.specs.declared.entry.Entry.TheVariants as entry
 use Rattle.cluster_laws.proofs.Lists.{within_number}
-use Rattle.copied_bytes.proofs.WriterSteps.{drew_on}
+use Rattle.machine_walk.proofs.WriterSteps.{drew_on}
 use Rattle.copied_bytes.proofs.WholeSwaps.{IsNobodys}
 use Rattle.std.specs.List.{AllByRecursion}
 use Rattle.std.proofs.lemmas.Option.{same_Some}
@@ -174,7 +174,7 @@ module _ (calls : (s : ServerState) (caller : Caller) (call : DsCallValue) → I
     uses = λ t m journal at p node n xid uid gid call may new bound. (both.uses t m journal at p.0 node n xid uid gid call may new bound, used_targets t m journal at p.0.0 p.0.1 p.1 node n xid uid gid call new bound);
     takes = λ t m journal at p file uid pos bytes bound. (((both.takes t m journal at p.0 file uid pos bytes bound).0, noted_targets t m journal at p.0.0 p.0.1 p.1 (entry.Sent file (a_uid uid) pos bytes) (λ id c. refl)), (tt, tt));
     strays = λ t m journal at p file uid pos bytes bound. (((both.strays t m journal at p.0 file uid pos bytes bound).0, noted_targets t m journal at p.0.0 p.0.1 p.1 (entry.Rogue file (a_uid uid) pos bytes) (λ id c. refl)), (tt, tt));
-    tells = λ t m journal at p file uid pos bytes. (((both.tells t m journal at p.0 file uid pos bytes).0, noted_targets t m journal at p.0.0 p.0.1 p.1 (entry.Told file (a_uid uid) pos bytes) (λ id c. refl)), (tt, tt));
+    tells = λ t m journal at p file uid pos bytes bound. (((both.tells t m journal at p.0 file uid pos bytes bound).0, noted_targets t m journal at p.0.0 p.0.1 p.1 (entry.Told file (a_uid uid) pos bytes) (λ id c. refl)), (tt, tt));
     creates = λ t m journal at p servers may h. (both.creates t m journal at p.0 servers may h, created_targets t m journal at p.0.0 p.0.1 p.1 servers);
   }
 

@@ -11,9 +11,9 @@ use Rattle.cluster_model.specs.Server.{ServerState, Caller, mirror_of, applied_e
 use Rattle.cluster_model.specs.DsCalls.{DsCallValue, Create, SetAttr, Write, Commit, Read, DsReplyValue, Created, Set, Written, Committed, Bytes, NotSync, Failed, DsPlan}
 use Rattle.cluster_laws.proofs.Lives.{itself}
 use Rattle.cluster_laws.proofs.KnownNow.{id_by}
-use Rattle.copied_bytes.proofs.Stories.{Story, AreEach}
-use Rattle.copied_bytes.proofs.Writers.{is_applied}
-use Rattle.copied_bytes.proofs.WriterFacts.{IsWrittenSo}
+use Rattle.machine_walk.proofs.Stories.{Story, AreEach}
+use Rattle.machine_walk.proofs.Writers.{is_applied}
+use Rattle.machine_walk.proofs.WriterFacts.{IsWrittenSo}
 use Rattle.copied_bytes.proofs.ServerPlans.{PlanKind, Refused, WroteTo, CommittedAt, SetTo, ReadFrom, WasThere, NewMade}
 use Rattle.copied_bytes.proofs.Wholes.{whole_by, is_that}
 use Rattle.copied_bytes.proofs.Slices.{IsSlice}

@@ -1,6 +1,6 @@
 -- Targets behind a step of a file, and what comes in at each swap.
 use Rattle.std.proofs.Common.{◌≡◌, ◌≢◌, ℕ, ◌+◌, ◌<◌, ◌≤◌, ◌⊎◌, Bool, true, false, List, [], ◌∷◌, ◌++◌, length, Some, refl, sym, ap, subst, ◌∙◌, arith, inl, inr}
-use Rattle.copied_bytes.proofs.WriterCases.{not_drawn}
+use Rattle.machine_walk.proofs.WriterCases.{not_drawn}
 use Rattle.std.proofs.lemmas.Bool.{cases_lt}
 use Rattle.cluster_model.specs.declared.ids.NodeId.TheVariants.{Mds}
 use Rattle.cluster_model.specs.declared.ids.MirrorId.{MirrorId}
@@ -23,13 +23,13 @@ use Rattle.cluster_laws.proofs.Lists.{all_more, all_at, put_same}
 use Rattle.cluster_laws.proofs.Invariant.{at_server, IsThisCall, IsPacket, IsTargetOf, live_of, IsFile, net_of}
 use Rattle.cluster_laws.proofs.KnownNow.{known_now}
 use Rattle.cluster_laws.proofs.RunFacts.{owner_told}
-use Rattle.copied_bytes.proofs.Stories.{Story, IsOnward, AreEach, IsMoment}
-use Rattle.copied_bytes.proofs.MoveCases.{HasReply, after_step, IsStepBy}
-use Rattle.copied_bytes.proofs.Placed.{files_set}
-use Rattle.copied_bytes.proofs.Writers.{HasUids}
-use Rattle.copied_bytes.proofs.Noted.{noter}
-use Rattle.copied_bytes.proofs.WriterFacts.{IsWriteCall, IsKnownPacket, KnowsWriters}
-use Rattle.copied_bytes.proofs.WriterSteps.{drew_new}
+use Rattle.machine_walk.proofs.Stories.{Story, IsOnward, AreEach, IsMoment}
+use Rattle.machine_walk.proofs.MoveCases.{HasReply, after_step, IsStepBy}
+use Rattle.machine_walk.proofs.Placed.{files_set}
+use Rattle.machine_walk.proofs.Writers.{HasUids}
+use Rattle.machine_walk.proofs.Noted.{noter}
+use Rattle.machine_walk.proofs.WriterFacts.{IsWriteCall, IsKnownPacket, KnowsWriters}
+use Rattle.machine_walk.proofs.WriterSteps.{drew_new}
 use Rattle.copied_bytes.proofs.CallsKept.{IsOutSo}
 use Rattle.copied_bytes.proofs.Parts.{IsPart, IsPut}
 use Rattle.copied_bytes.proofs.Sources.{owner_of, CopiesSo, IsBusySo}
@@ -39,11 +39,11 @@ use Rattle.copied_bytes.proofs.TargetFacts.{IsPieceFor, IsPiecePacket, CopiesTar
 use Rattle.cluster_laws.proofs.PeriodStates.{IsMine}
 use Rattle.copied_bytes.proofs.TargetCases.{own_all}
 use Rattle.copied_bytes.proofs.TargetTurns.{all_both}
-use Rattle.copied_bytes.proofs.StepKinds.{StepKind}
-use Rattle.copied_bytes.proofs.WriterCases.{on}
-use Rattle.copied_bytes.proofs.MoveCases.{Drew, DrewNone, DrewOne, IsHeard}
-use Rattle.copied_bytes.proofs.Stories.{begun_copy}
-use Rattle.copied_bytes.proofs.Writers.{mine_on}
+use Rattle.machine_walk.proofs.StepKinds.{StepKind}
+use Rattle.machine_walk.proofs.WriterCases.{on}
+use Rattle.machine_walk.proofs.MoveCases.{Drew, DrewNone, DrewOne, IsHeard}
+use Rattle.machine_walk.proofs.Stories.{begun_copy}
+use Rattle.machine_walk.proofs.Writers.{mine_on}
 use Rattle.copied_bytes.proofs.Wholes.{IsWhole}
 use Rattle.cluster_laws.proofs.Facts.{Bears}
 use Rattle.file_rule.specs.FilePhases.{AsksLayout, OwnWrite, Recall, Returns, Revokes, OwnEnds, Resilver, Answers, TimesOut, Ticks, Sees}

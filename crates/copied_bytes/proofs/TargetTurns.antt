@@ -23,9 +23,9 @@ use Rattle.cluster_laws.specs.Machine.{PacketValue}
 use Rattle.cluster_laws.proofs.Lists.{all_at, all_set, found_at}
 use Rattle.cluster_laws.proofs.Invariant.{at_server, is_answered}
 use Rattle.cluster_laws.proofs.PeriodStates.{IsMine}
-use Rattle.copied_bytes.proofs.MoveCases.{HasReply, IsHeard}
-use Rattle.copied_bytes.proofs.Stories.{Story}
-use Rattle.copied_bytes.proofs.StepKinds.{copy_turned}
+use Rattle.machine_walk.proofs.MoveCases.{HasReply, IsHeard}
+use Rattle.machine_walk.proofs.Stories.{Story}
+use Rattle.machine_walk.proofs.StepKinds.{copy_turned}
 use Rattle.copied_bytes.proofs.CallsKept.{IsOutSo, reply_so}
 use Rattle.copied_bytes.proofs.Parts.{IsPart, IsPut, put_less, none_put}
 use Rattle.copied_bytes.proofs.Sources.{owner_of}

@@ -7,7 +7,7 @@ use Rattle.std.proofs.lemmas.Option.{same_Some}
 use Rattle.cluster_model.specs.declared.call_stage.CallStage.{CallStage}
 use Rattle.cluster_model.specs.declared.call_stage.CallStage.TheVariants.{Waits, Out, KeptOut, KeptBack, Done, GivenUp}
 use Rattle.cluster_model.specs.Fences.{is_over}
-use Rattle.copied_bytes.proofs.Writers.{same_copier}
+use Rattle.machine_walk.proofs.Writers.{same_copier}
 use Rattle.cluster_model.specs.declared.ids.MirrorId.{MirrorId}
 use Rattle.cluster_model.specs.declared.ids.Mirror.{Mirror}
 use Rattle.cluster_model.specs.declared.phase.LeftCause.{LeftCause}
@@ -32,22 +32,22 @@ use Rattle.cluster_laws.specs.Machine.{PacketValue, file_id}
 use Rattle.cluster_laws.specs.FenceLaw.{live_in, changed_live, swapped_in}
 use Rattle.cluster_laws.proofs.Lists.{all_append, all_more, all_any}
 use Rattle.cluster_laws.proofs.Lives.{own_file, ids_but_for}
-use Rattle.copied_bytes.proofs.MoveCases.{IsHeard}
-use Rattle.copied_bytes.proofs.Placed.{each_anywhere}
+use Rattle.machine_walk.proofs.MoveCases.{IsHeard}
+use Rattle.machine_walk.proofs.Placed.{each_anywhere}
 use Rattle.copied_bytes.proofs.SwapKinds.{first_stays, live_then, same_behind}
-use Rattle.copied_bytes.proofs.Stories.{Story, AreEach}
-use Rattle.copied_bytes.proofs.StepKinds.{copy_turned, IsAlike, IsLeaving, OneLeft, OneTold, IsTakenWith, NoWrite, OneWrite, StepKind, Rests, Learnt, Recalled, Grants, Ends, Resilvers, MakingTurns, MakingDone, FenceTurns, FenceLoses, FenceDone, SettleTurns, SettleLoses, SettleFrees, CopyBegins, CopyTurns, CopyLoses, TargetLost, CopyFrees, CopySwaps}
+use Rattle.machine_walk.proofs.Stories.{Story, AreEach}
+use Rattle.machine_walk.proofs.StepKinds.{copy_turned, IsAlike, IsLeaving, OneLeft, OneTold, IsTakenWith, NoWrite, OneWrite, StepKind, Rests, Learnt, Recalled, Grants, Ends, Resilvers, MakingTurns, MakingDone, FenceTurns, FenceLoses, FenceDone, SettleTurns, SettleLoses, SettleFrees, CopyBegins, CopyTurns, CopyLoses, TargetLost, CopyFrees, CopySwaps}
 use Rattle.copied_bytes.proofs.Wholes.{IsWhole}
 use Rattle.copied_bytes.proofs.Sources.{IsNotFirst, CopiesSo}
 use Rattle.copied_bytes.proofs.SourceKinds.{turned_copy, left_copy}
 use Rattle.copied_bytes.proofs.Parts.{IsPut, put_whole}
 use Rattle.copied_bytes.proofs.TargetTurns.{IsSiteOf, IsTargetKept, TargetsKept, reach, all_both, IsMadeThen, targets_turn, all_over_of}
 use Rattle.copied_bytes.proofs.TargetFacts.{CopiesTargets}
-use Rattle.copied_bytes.proofs.Writers.{IsCopier}
+use Rattle.machine_walk.proofs.Writers.{IsCopier}
 use Rattle.copied_bytes.proofs.Sources.{owner_of}
 use Rattle.cluster_laws.specs.Periods.{was_granted}
 use Rattle.cluster_laws.proofs.PeriodFacts.{granted_in}
-use Rattle.copied_bytes.proofs.WriterFacts.{ungranted}
+use Rattle.machine_walk.proofs.WriterFacts.{ungranted}
 use Rattle.cluster_laws.proofs.Lives.{all_filter}
 
 -- The first live mirror of a file has bytes that are all stable, and so has a mirror that comes in.

@@ -10,7 +10,7 @@ use Rattle.cluster_model.specs.Content.{Content, overlay_all, shown_of, settled,
 use Rattle.cluster_model.specs.Journal.{Copy, is_mirror, copy_after, copy_by}
 use Rattle.cluster_laws.specs.Agreement.{Has}
 use Rattle.cluster_laws.proofs.KnownNow.{id_by}
-use Rattle.copied_bytes.proofs.Writers.{is_applied}
+use Rattle.machine_walk.proofs.Writers.{is_applied}
 
 -- all of these bytes are stable, and nothing is pending
 abbrev pub whole_of : List ℕ → Content

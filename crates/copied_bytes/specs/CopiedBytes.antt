@@ -1,5 +1,5 @@
 -- What copies do, and which writes reach a live mirror, by the journal of a run (RFC 8435, sections 2.2 and 8.3; RFC 1813, section 3.3.7).
-use Rattle.std.specs.Prelude.{[], if◌then◌else◌, ◌≡◌, ℕ, ◌⊎◌, true, false, List, ◌∷◌, ◌++◌, Option, Some}
+use Rattle.std.specs.Prelude.{[], if◌then◌else◌, ◌≡◌, ℕ, true, false, List, ◌∷◌, ◌++◌, Option, Some}
 use Rattle.std.specs.List.{AllByRecursion}
 use Rattle.cluster_model.specs.declared.ids.FileId.{FileId}
 use Rattle.cluster_model.specs.declared.ids.Cred.{Cred}
@@ -10,26 +10,10 @@ use Rattle.cluster_model.specs.declared.entry.Entry.TheVariants.{Free, Granted, 
 use Rattle.cluster_model.specs.Content.{Pending, shown_of}
 use Rattle.cluster_model.specs.Journal.{is_mirror, content_of}
 use Rattle.cluster_model.specs.Phases.{is_clean}
-use Rattle.cluster_laws.specs.Machine.{Move, new_machine, journal_of}
-use Rattle.cluster_laws.specs.FenceLaw.{is_file, new_servers, live_in}
+use Rattle.cluster_laws.specs.FenceLaw.{is_file, live_in}
 use Rattle.cluster_laws.specs.Periods.{was_granted}
-use Rattle.cluster_laws.specs.Agreement.{causes_of, sent_of, rogue_of, bytes_of, IsNoChange, Has}
-use Rattle.cluster_laws.specs.Holders.{IsIn, the_write, AreBound}
-
--- a write of a user that was granted a file: one that was taken, or that strayed
-pub record IsUsersWrite (before : List Entry) (uid : ℕ) (w : Pending) : Type 0 where
-  pub noted : IsIn w (sent_of uid before) ⊎ IsIn w (rogue_of uid before)
-  pub granted : was_granted before uid ≡ true
-
--- A write is applied under the uid that its mirror belongs to: a user's write, or one under a uid that nobody is ever granted.
-pub record IsAppliedByOwner (journal before : List Entry) (m : MirrorId) (cred : Cred) (w : Pending) : Type 0 where
-  pub owner : cred.0 ≡ (content_of before m).owner
-  pub whose : IsUsersWrite before cred.0 w ⊎ (was_granted journal cred.0 ≡ false)
-
-abbrev pub AppliesByOwners : List Entry → Type 0
-AppliesByOwners journal =
-    (before behind : List Entry) (m : MirrorId) (cred : Cred) (at : ℕ) (bytes : List ℕ) → journal ≡ before ++ Applied m cred at bytes ∷ behind
-    → IsAppliedByOwner journal before m cred (the_write at bytes)
+use Rattle.cluster_laws.specs.Agreement.{causes_of, bytes_of, IsNoChange, Has}
+use Rattle.cluster_laws.specs.Holders.{the_write}
 
 -- Wherever the mirror is live, the write would change nothing of what is shown there.
 abbrev pub LeavesAsShown : List Entry → MirrorId → Pending → Type 0
@@ -41,10 +25,6 @@ abbrev pub CopiesLeaveAsShown : List Entry → Type 0
 CopiesLeaveAsShown journal =
     (before behind : List Entry) (m : MirrorId) (cred : Cred) (at : ℕ) (bytes : List ℕ) → journal ≡ before ++ Applied m cred at bytes ∷ behind
     → was_granted journal cred.0 ≡ false → LeavesAsShown before m (the_write at bytes)
-
--- of each run in which all holders are bound
-abbrev pub OfBoundRuns : (List Entry → Type 0) → List ℕ → List Move → Type 0
-OfBoundRuns Law boots moves = AreBound boots moves → Law (journal_of (new_machine (new_servers 1 boots)) moves)
 
 -- ---- copies
 

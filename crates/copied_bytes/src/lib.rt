@@ -3,9 +3,11 @@
 
 ghost use Rattle.std.specs.Prelude.{ℕ, List};
 ghost use Rattle.cluster_laws.specs.Machine.{Move};
-ghost use Rattle.copied_bytes.specs.CopiedBytes.{AppliesByOwners, SwapsFromStable, SwapsInAlike, CopiesLeaveAsShown, FreesAlike, OfBoundRuns};
+ghost use Rattle.machine_walk.specs.Owners.{AppliesByOwners, OfBoundRuns};
+ghost use Rattle.copied_bytes.specs.CopiedBytes.{SwapsFromStable, SwapsInAlike, CopiesLeaveAsShown, FreesAlike};
 
 use cluster_model::server_guards;
+use machine_walk::owners_law;
 
 /// Of every run in which all holders are bound: a write is applied under the uid that its mirror belongs to, and it is one
 /// that a user took or sent astray after it was granted a file, or one under a uid that nobody is ever granted.
@@ -19,5 +21,6 @@ pub fn copied_bytes()
     ensures late { (boots : List ℕ) (moves : List Move) → OfBoundRuns CopiesLeaveAsShown boots moves }
     ensures freed { (boots : List ℕ) (moves : List Move) → OfBoundRuns FreesAlike boots moves }
 {
+    owners_law();
     server_guards();
 }

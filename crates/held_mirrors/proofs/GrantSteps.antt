@@ -14,8 +14,8 @@ use Rattle.file_rule.specs.MdsFiles.{Activity, FileStep}
 use Rattle.file_rule.specs.FilePhases.{FileInput}
 use Rattle.cluster_laws.specs.Machine.{file_id}
 use Rattle.cluster_laws.proofs.Lists.{all_append, all_more}
-use Rattle.sound_runs.proofs.StepKinds.{copy_turned, IsAlike, IsLeaving, OneLeft, OneTold, IsTakenWith, StepKind, Rests, Learnt, Recalled, Grants, Ends, Resilvers, MakingTurns, MakingDone, FenceTurns, FenceLoses, FenceDone, SettleTurns, SettleLoses, SettleFrees, CopyBegins, CopyTurns, CopyLoses, TargetLost, CopyFrees, CopySwaps}
-use Rattle.sound_runs.proofs.Writers.{IsSilent, has_calls, leaving_silent, free_silent, swapped_silent, busy_silent}
+use Rattle.machine_walk.proofs.StepKinds.{copy_turned, IsAlike, IsLeaving, OneLeft, OneTold, IsTakenWith, StepKind, Rests, Learnt, Recalled, Grants, Ends, Resilvers, MakingTurns, MakingDone, FenceTurns, FenceLoses, FenceDone, SettleTurns, SettleLoses, SettleFrees, CopyBegins, CopyTurns, CopyLoses, TargetLost, CopyFrees, CopySwaps}
+use Rattle.machine_walk.proofs.Writers.{IsSilent, has_calls, leaving_silent, free_silent, swapped_silent, busy_silent}
 
 -- the step grants the file, which was free, and its mirrors stay
 pub record GrantsFile (n : ℕ) (s : LayoutState) (x : FileStep) : Type 0 where
@@ -50,7 +50,7 @@ module _ (n : ℕ) (fresh : Fresh) (input : FileInput) where
   grants_or (SettleLoses s stage m live cause is some) = inr (record { grant = refl; writer = refl; applied = refl }, tt)
   grants_or (SettleFrees s stage copies is none by) = inr (record { grant = refl; writer = refl; applied = refl }, tt)
   grants_or (CopyBegins s stage copies is some by) = inr tt
-  grants_or (CopyTurns s c x k) = inr (busy_silent n fresh input k refl)
+  grants_or (CopyTurns s c x k shown) = inr (busy_silent n fresh input k refl)
   grants_or (CopyLoses s c m live cause is some) = inr (record { grant = refl; writer = refl; applied = refl }, tt)
   grants_or (TargetLost s c id cause x other k) = inr (record { grant = refl; writer = refl; applied = refl }, busy_silent n fresh input k refl)
   grants_or (CopyFrees s c by copies is over none) = inr (record { grant = refl; writer = refl; applied = refl }, tt)
@@ -87,7 +87,7 @@ module _ (n : ℕ) (fresh : Fresh) (input : FileInput) where
   held_or_ended (SettleLoses s stage m live cause is some) idle node is_recalled held = absurd cc
   held_or_ended (SettleFrees s stage copies is none by) idle node is_recalled held = absurd cc
   held_or_ended (CopyBegins s stage copies is some by) idle node is_recalled held = absurd cc
-  held_or_ended (CopyTurns s c x k) idle node is_recalled held = absurd cc
+  held_or_ended (CopyTurns s c x k shown) idle node is_recalled held = absurd cc
   held_or_ended (CopyLoses s c m live cause is some) idle node is_recalled held = absurd cc
   held_or_ended (TargetLost s c id cause x other k) idle node is_recalled held = absurd cc
   held_or_ended (CopyFrees s c by copies is over none) idle node is_recalled held = absurd cc

@@ -32,15 +32,15 @@ use Rattle.cluster_laws.proofs.Invariant.{IsBusyWith, is_idle, net_of, live_of, 
 use Rattle.cluster_laws.proofs.KnownNow.{id_by}
 use Rattle.cluster_laws.proofs.NewFiles.{pushed}
 use Rattle.cluster_laws.proofs.PeriodFacts.{granted_in}
-use Rattle.sound_runs.proofs.Stories.{Story, IsMoment, AreEach}
-use Rattle.sound_runs.proofs.MoveCases.{after_step, after_call, created_machine, Cases}
-use Rattle.sound_runs.proofs.MoveRuns.{RunDone, run_done}
+use Rattle.machine_walk.proofs.Stories.{Story, IsMoment, AreEach}
+use Rattle.machine_walk.proofs.MoveCases.{after_step, after_call, created_machine, Cases}
+use Rattle.machine_walk.proofs.MoveRuns.{RunDone, run_done}
 use Rattle.sound_runs.proofs.CallLayouts.{layout_kept}
-use Rattle.sound_runs.proofs.StepKinds.{StepKind, IsTakenWith}
-use Rattle.sound_runs.proofs.StepsByKind.{phase_kind}
+use Rattle.machine_walk.proofs.StepKinds.{StepKind, IsTakenWith}
+use Rattle.machine_walk.proofs.StepsByKind.{phase_kind}
 use Rattle.sound_runs.proofs.UserNotes.{flat_append}
-use Rattle.sound_runs.proofs.Writers.{IsSilent, has_calls}
-use Rattle.sound_runs.proofs.WriterRuns.{first_story, first_moment}
+use Rattle.machine_walk.proofs.Writers.{IsSilent, has_calls}
+use Rattle.machine_walk.proofs.WriterRuns.{first_story, first_moment}
 use Rattle.holder_parts.specs.HeldOwners.{BelongTo, DoHoldersOwn}
 use Rattle.held_mirrors.specs.HeldMirrors.{EachHolderOwns}
 use Rattle.held_mirrors.proofs.GrantSteps.{GrantsFile, grants_or, HeldStep, GoesOnHeld, EntersItsEnd, held_or_ended}

@@ -25,13 +25,13 @@ use Rattle.cluster_laws.specs.FenceLaw.{live_in, new_servers}
 use Rattle.cluster_laws.specs.Holders.{AreBound}
 use Rattle.cluster_laws.proofs.Invariant.{net_of, live_of}
 use Rattle.cluster_laws.proofs.PeriodFacts.{granted_in}
-use Rattle.sound_runs.proofs.Stories.{Story, IsMoment, AreEach}
-use Rattle.sound_runs.proofs.MoveCases.{after_step, Cases}
-use Rattle.sound_runs.proofs.MoveRuns.{RunDone, run_done}
-use Rattle.sound_runs.proofs.StepKinds.{IsTakenWith, NoWrite, OneWrite, StepKind}
-use Rattle.sound_runs.proofs.StepsByKind.{phase_kind}
-use Rattle.sound_runs.proofs.Writers.{IsSilent}
-use Rattle.sound_runs.proofs.WriterRuns.{first_story, first_moment}
+use Rattle.machine_walk.proofs.Stories.{Story, IsMoment, AreEach}
+use Rattle.machine_walk.proofs.MoveCases.{after_step, Cases}
+use Rattle.machine_walk.proofs.MoveRuns.{RunDone, run_done}
+use Rattle.machine_walk.proofs.StepKinds.{IsTakenWith, NoWrite, OneWrite, StepKind}
+use Rattle.machine_walk.proofs.StepsByKind.{phase_kind}
+use Rattle.machine_walk.proofs.Writers.{IsSilent}
+use Rattle.machine_walk.proofs.WriterRuns.{first_story, first_moment}
 use Rattle.held_mirrors.specs.HeldMirrors.{HasHolding, AreGrantsHeld, EachGrantIsHeld}
 use Rattle.held_mirrors.proofs.GrantSteps.{GrantsFile, grants_or}
 

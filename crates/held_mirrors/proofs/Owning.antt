@@ -40,8 +40,8 @@ use Rattle.cluster_laws.proofs.Lists.{all_append, all_more, all_at, put_same, pu
 use Rattle.cluster_laws.proofs.Invariant.{at_server, IsCallOf, IsPacket, IsInFence, IsMirrorOf, KeepsOwner, IsFile, net_of, Holds}
 use Rattle.cluster_laws.proofs.CallsOut.{mds_call}
 use Rattle.cluster_laws.proofs.KnownNow.{known_now, stands, id_by}
-use Rattle.sound_runs.proofs.Stories.{Story, IsMoment}
-use Rattle.sound_runs.proofs.Placed.{IfCall, its_call}
+use Rattle.machine_walk.proofs.Stories.{Story, IsMoment}
+use Rattle.machine_walk.proofs.Placed.{IfCall, its_call}
 use Rattle.held_mirrors.proofs.SettledSteps.{is_settled}
 
 -- ---- what is known

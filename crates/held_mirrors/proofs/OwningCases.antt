@@ -44,11 +44,11 @@ use Rattle.cluster_laws.proofs.KnownNow.{known_now, stands, id_by}
 use Rattle.cluster_laws.proofs.PeriodFacts.{AreInPlace, user_then}
 use Rattle.cluster_laws.proofs.PeriodStates.{IsActive, PeriodOk, PeriodRow, Plain as PlainPeriod, Draws as DrawsPeriod, IsPeriod}
 use Rattle.cluster_laws.proofs.PeriodPhases.{phase_row}
-use Rattle.sound_runs.proofs.Stories.{Story, IsMoment}
-use Rattle.sound_runs.proofs.MoveCases.{Drew, DrewNone, DrewOne, after_step, after_call, IsStepBy}
-use Rattle.sound_runs.proofs.Placed.{files_set, IfCall, its_call}
+use Rattle.machine_walk.proofs.Stories.{Story, IsMoment}
+use Rattle.machine_walk.proofs.MoveCases.{Drew, DrewNone, DrewOne, after_step, after_call, IsStepBy}
+use Rattle.machine_walk.proofs.Placed.{files_set, IfCall, its_call}
 use Rattle.sound_runs.proofs.CallLayouts.{layout_kept}
-use Rattle.sound_runs.proofs.StepsByKind.{phase_kind}
+use Rattle.machine_walk.proofs.StepsByKind.{phase_kind}
 use Rattle.held_mirrors.proofs.SettledSteps.{is_settled, SettledStep, Remains, IsFencedNow, IsMadeNow, IsUnsettled, MakesTo, FencesTo, TopIs, settles}
 use Rattle.held_mirrors.proofs.Owning.{OwnsFile, GivesAtMost, AsksAtMost, IsOwned, AreOwned, KnowsOwned, by_fence, by_making, one_home, came_so}
 

@@ -20,7 +20,7 @@ use Rattle.file_rule.specs.MdsFiles.{Creations, Activity, Idle, Makes, Fences, S
 use Rattle.file_rule.specs.FilePhases.{FileInput}
 use Rattle.cluster_laws.specs.Machine.{file_id}
 use Rattle.cluster_laws.proofs.Lives.{ids_but_for}
-use Rattle.sound_runs.proofs.StepKinds.{copy_turned, IsAlike, IsLeaving, OneLeft, OneTold, IsTakenWith, StepKind, Rests, Learnt, Recalled, Grants, Ends, Resilvers, MakingTurns, MakingDone, FenceTurns, FenceLoses, FenceDone, SettleTurns, SettleLoses, SettleFrees, CopyBegins, CopyTurns, CopyLoses, TargetLost, CopyFrees, CopySwaps}
+use Rattle.machine_walk.proofs.StepKinds.{copy_turned, IsAlike, IsLeaving, OneLeft, OneTold, IsTakenWith, StepKind, Rests, Learnt, Recalled, Grants, Ends, Resilvers, MakingTurns, MakingDone, FenceTurns, FenceLoses, FenceDone, SettleTurns, SettleLoses, SettleFrees, CopyBegins, CopyTurns, CopyLoses, TargetLost, CopyFrees, CopySwaps}
 
 -- neither made nor fenced
 abbrev pub is_settled : LayoutPhase → Bool
@@ -143,7 +143,7 @@ module _ (n : ℕ) (fresh : Fresh) (input : FileInput) (top : ℕ) where
   settles (SettleLoses s stage m live cause is some) h = Remains h refl (loses s m.id)
   settles (SettleFrees s stage copies is none by) h = Remains h refl (same_within (ids_of s.live))
   settles (CopyBegins s stage copies is some by) h = Remains h refl (same_within (ids_of s.live))
-  settles (CopyTurns s c x k) h = settles k h
+  settles (CopyTurns s c x k shown) h = settles k h
   settles (CopyLoses s c m live cause is some) h = Remains h refl (loses s m.id)
   settles (TargetLost s c id cause x other k) h =
       let settled : is_settled (after_loss s id).phase ≡ true = same_settled s.phase (is_source id s.live) ∙ h in

@@ -25,16 +25,16 @@ use Rattle.sound_journals.specs.Marks.{marks_of}
 use Rattle.cluster_laws.proofs.Lists.{all_append, all_at, all_more, place_of}
 use Rattle.cluster_laws.proofs.Invariant.{net_of}
 use Rattle.cluster_laws.proofs.KnownNow.{all_stand}
-use Rattle.sound_runs.proofs.Stories.{Story, drawn_story, onward_same, onward_drawn, IsOnward, IsMoment, AreEach}
-use Rattle.sound_runs.proofs.MoveCases.{after_call, Cases}
-use Rattle.sound_runs.proofs.Placed.{its_call}
+use Rattle.machine_walk.proofs.Stories.{Story, drawn_story, onward_same, onward_drawn, IsOnward, IsMoment, AreEach}
+use Rattle.machine_walk.proofs.MoveCases.{after_call, Cases}
+use Rattle.machine_walk.proofs.Placed.{its_call}
 use Rattle.cluster_laws.proofs.CallsOut.{mds_call}
-use Rattle.sound_runs.proofs.StepKinds.{IsTakenWith, NoWrite, OneWrite}
-use Rattle.sound_runs.proofs.StepsByKind.{phase_kind}
-use Rattle.sound_runs.proofs.Writers.{is_applied, IsSilent, IsGrantOf, grant_or}
-use Rattle.sound_runs.proofs.WriterFacts.{KnowsWriters}
-use Rattle.sound_runs.proofs.WriterCases.{writer_cases}
-use Rattle.sound_runs.proofs.WriterRuns.{first_story}
+use Rattle.machine_walk.proofs.StepKinds.{IsTakenWith, NoWrite, OneWrite}
+use Rattle.machine_walk.proofs.StepsByKind.{phase_kind}
+use Rattle.machine_walk.proofs.Writers.{is_applied, IsSilent, IsGrantOf, grant_or}
+use Rattle.machine_walk.proofs.WriterFacts.{KnowsWriters}
+use Rattle.machine_walk.proofs.WriterCases.{writer_cases}
+use Rattle.machine_walk.proofs.WriterRuns.{first_story}
 use Rattle.sound_runs.proofs.CallLayouts.{layout_kept}
 use Rattle.sound_runs.proofs.ViewFolds.{users_of, users_append, live_is}
 use Rattle.sound_runs.proofs.OnceGranted.{IsUser}

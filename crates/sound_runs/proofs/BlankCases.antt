@@ -21,15 +21,15 @@ use Rattle.cluster_laws.specs.Holders.{IsCovered, IsIn}
 use Rattle.sound_journals.specs.Marks.{marks_of}
 use Rattle.cluster_laws.proofs.Lists.{all_more, put_same}
 use Rattle.cluster_laws.proofs.Invariant.{Net, IsFile, IsBusyWith, live_of, net_of}
-use Rattle.sound_runs.proofs.Stories.{Story, begun_copy, drawn_story, onward_drawn, IsOnward, IsMoment, AreEach}
-use Rattle.sound_runs.proofs.MoveCases.{Drew, DrewNone, DrewOne, after_step, created_machine, IsStepBy, Cases}
-use Rattle.sound_runs.proofs.Placed.{each_anywhere}
+use Rattle.machine_walk.proofs.Stories.{Story, begun_copy, drawn_story, onward_drawn, IsOnward, IsMoment, AreEach}
+use Rattle.machine_walk.proofs.MoveCases.{Drew, DrewNone, DrewOne, after_step, created_machine, IsStepBy, Cases}
+use Rattle.machine_walk.proofs.Placed.{each_anywhere}
 use Rattle.sound_runs.proofs.FileTurns.{is_making}
-use Rattle.sound_runs.proofs.StepKinds.{StepKind}
-use Rattle.sound_runs.proofs.StepsByKind.{phase_kind}
-use Rattle.sound_runs.proofs.Writers.{is_applied, IsCopier, IsNewUid, grant_or}
-use Rattle.sound_runs.proofs.WriterSteps.{drew_on, drew_new}
-use Rattle.sound_runs.proofs.WriterCases.{writer_cases}
+use Rattle.machine_walk.proofs.StepKinds.{StepKind}
+use Rattle.machine_walk.proofs.StepsByKind.{phase_kind}
+use Rattle.machine_walk.proofs.Writers.{is_applied, IsCopier, IsNewUid, grant_or}
+use Rattle.machine_walk.proofs.WriterSteps.{drew_on, drew_new}
+use Rattle.machine_walk.proofs.WriterCases.{writer_cases}
 use Rattle.sound_runs.proofs.SoundSteps.{call_laws, call_follows}
 use Rattle.sound_runs.proofs.AllCases.{IsAllNoted, AllSo, AllNoted, all_cases, step_quiet}
 use Rattle.sound_runs.proofs.FirstFrees.{FreesEmpty, some_on, listed_of, first_or, later_frees, server_frees}

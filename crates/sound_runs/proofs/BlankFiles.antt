@@ -21,18 +21,18 @@ use Rattle.cluster_laws.specs.FenceLaw.{live_in}
 use Rattle.cluster_laws.specs.Agreement.{Has}
 use Rattle.cluster_laws.specs.Periods.{was_granted}
 use Rattle.cluster_laws.specs.Holders.{the_write}
-use Rattle.sound_runs.specs.BoundJournals.{IsGrantedWrite}
+use Rattle.machine_walk.specs.Owners.{IsUsersWrite}
 use Rattle.cluster_laws.proofs.Lists.{put_same, put_other, same_numbered}
 use Rattle.cluster_laws.proofs.Journals.{copy_append}
 use Rattle.cluster_laws.proofs.Invariant.{IsMirrorOf, net_of}
 use Rattle.cluster_laws.proofs.KnownNow.{id_by, stands}
-use Rattle.sound_runs.proofs.Stories.{Story, onward_same, IsOnward, IsMoment, AreEach}
+use Rattle.machine_walk.proofs.Stories.{Story, onward_same, IsOnward, IsMoment, AreEach}
 use Rattle.sound_runs.proofs.ViewFolds.{users_of}
 use Rattle.sound_runs.proofs.StaySo.{same_mirror}
 use Rattle.sound_runs.proofs.OnceGranted.{IsUser, not_both}
 use Rattle.sound_runs.proofs.Serving.{past_end}
-use Rattle.sound_runs.proofs.Writers.{is_applied, IsCopier}
-use Rattle.sound_runs.proofs.WriterFacts.{IsAppliedSo, IsWrittenSo}
+use Rattle.machine_walk.proofs.Writers.{is_applied, IsCopier}
+use Rattle.machine_walk.proofs.WriterFacts.{IsAppliedSo, IsWrittenSo}
 use Rattle.sound_runs.proofs.Owners.{had_name, some_file}
 use Rattle.sound_runs.proofs.AllCases.{AllSo}
 use Rattle.sound_runs.proofs.FirstFrees.{not_none, some_on, none_before, making_of}
@@ -95,14 +95,14 @@ module _ (t : Story) (m : Machine) (journal : List Entry) (at : IsMoment t m jou
 
   module _ (id : MirrorId) (n : ℕ) (none : live_in journal (file_id n) ≡ None) (b : IsBlankAt t journal id n) where
     -- no write is applied at its mirror
-    never_zero : (user : ℕ) (w : Pending) → user ≡ 0 → IsGrantedWrite journal user w ⊎ IsCopier t m.next_uid user → ⊥
+    never_zero : (user : ℕ) (w : Pending) → user ≡ 0 → IsUsersWrite journal user w ⊎ IsCopier t m.next_uid user → ⊥
     never_zero user w zero (inl g) = not_both (was_granted journal 0) (ap (was_granted journal) (sym zero) ∙ g.granted) p.writers.nobody
     never_zero user w zero (inr c) = wrong c.bytes (sym p.writers.none ∙ (ap t.copied (sym zero) ∙ c.copy))
       where
         wrong : (bytes : List ℕ) → None ≡ Some bytes → ⊥
         wrong bytes e = cc
 
-    never_its : (user : ℕ) (w : Pending) → t.whose user ≡ n → IsGrantedWrite journal user w ⊎ IsCopier t m.next_uid user → ⊥
+    never_its : (user : ℕ) (w : Pending) → t.whose user ≡ n → IsUsersWrite journal user w ⊎ IsCopier t m.next_uid user → ⊥
     never_its user w its (inl g) =
         let some = some_file (λ k. []) journal user g.granted in
         let file : some.0 ≡ file_id n = ap (λ (k : ℕ). file_id k) (sym (p.owners.granted some.0 user some.1).0 ∙ its) in

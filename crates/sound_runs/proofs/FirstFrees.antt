@@ -25,9 +25,9 @@ use Rattle.cluster_laws.specs.Agreement.{Has}
 use Rattle.cluster_laws.proofs.Lists.{all_append, all_more}
 use Rattle.cluster_laws.proofs.Journals.{live_append}
 use Rattle.cluster_laws.proofs.Invariant.{live_of}
-use Rattle.sound_runs.proofs.Stories.{AreEach}
+use Rattle.machine_walk.proofs.Stories.{AreEach}
 use Rattle.sound_runs.proofs.FileTurns.{is_making}
-use Rattle.sound_runs.proofs.StepKinds.{IsLeaving, OneLeft, OneTold, IsTakenWith, NoWrite, OneWrite, StepKind, Rests, Learnt, Recalled, Grants, Ends, Resilvers, MakingTurns, MakingDone, FenceTurns, FenceLoses, FenceDone, SettleTurns, SettleLoses, SettleFrees, CopyBegins, CopyTurns, CopyLoses, TargetLost, CopyFrees, CopySwaps}
+use Rattle.machine_walk.proofs.StepKinds.{IsLeaving, OneLeft, OneTold, IsTakenWith, NoWrite, OneWrite, StepKind, Rests, Learnt, Recalled, Grants, Ends, Resilvers, MakingTurns, MakingDone, FenceTurns, FenceLoses, FenceDone, SettleTurns, SettleLoses, SettleFrees, CopyBegins, CopyTurns, CopyLoses, TargetLost, CopyFrees, CopySwaps}
 
 -- at a file's first entry free its mirrors are empty
 abbrev pub AreNewMirrorsEmpty : List Entry → Type 0
@@ -155,7 +155,7 @@ module _ (n : ℕ) (fresh : Fresh) (input : FileInput) where
   frees_own (SettleLoses s stage m live cause is some) h = (tt, tt)
   frees_own (SettleFrees s stage copies is none by) h = ((refl, ap is_making is), tt)
   frees_own (CopyBegins s stage copies is some by) h = tt
-  frees_own (CopyTurns s c x k) h = frees_own k refl
+  frees_own (CopyTurns s c x k shown) h = frees_own k refl
   frees_own (CopyLoses s c m live cause is some) h = (tt, tt)
   frees_own (TargetLost s c id cause x other k) h = (tt, subst (λ (b : Bool). AllByRecursion (FreesOwn n b) x.entries) (making_left s.phase (is_source id s.live)) (frees_own k refl))
   frees_own (CopyFrees s c by copies is over none) h = ((refl, ap is_making is), tt)
@@ -185,7 +185,7 @@ module _ (n : ℕ) (fresh : Fresh) (input : FileInput) where
   first_or (SettleLoses s stage m live cause is some) = inr (tt, tt)
   first_or (SettleFrees s stage copies is none by) = inr ((refl, ap is_making is), tt)
   first_or (CopyBegins s stage copies is some by) = inr tt
-  first_or (CopyTurns s c x k) = inr (frees_own k refl)
+  first_or (CopyTurns s c x k shown) = inr (frees_own k refl)
   first_or (CopyLoses s c m live cause is some) = inr (tt, tt)
   first_or (TargetLost s c id cause x other k) = inr (frees_own (TargetLost s c id cause x other k) refl)
   first_or (CopyFrees s c by copies is over none) = inr ((refl, ap is_making is), tt)

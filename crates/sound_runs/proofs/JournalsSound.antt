@@ -19,11 +19,12 @@ use Rattle.cluster_laws.specs.Holders.{IsIn, the_write}
 use Rattle.sound_journals.specs.Marks.{UserMarks, no_marks, marks_after, marks_by}
 use Rattle.sound_journals.specs.Views.{FileView, no_view, view_of}
 use Rattle.sound_journals.specs.Sound.{AllLive, IsFineLive, IsOutOfReach, shows_first, IsFreedSoundly, First, Again, BehindClean, BehindDirty, IsSentSoundly, IsEndedSoundly, IsAppliedSoundly, OfPeriod, NoChange, IsSoundEntry, AreSoundEntries}
-use Rattle.sound_runs.specs.BoundJournals.{IsGrantedWrite, IsQuietWrite, IsAppliedInPlace, AreCopiesSound}
+use Rattle.machine_walk.specs.Owners.{IsUsersWrite}
+use Rattle.sound_runs.specs.BoundJournals.{IsQuietWrite, IsAppliedInPlace, AreCopiesSound}
 use Rattle.cluster_laws.proofs.Lists.{all_more, all_by_split}
 use Rattle.cluster_laws.proofs.Lives.{itself}
 use Rattle.cluster_laws.proofs.PeriodFacts.{AreInPlace, periods_fenced}
-use Rattle.sound_runs.proofs.Stories.{AreEach}
+use Rattle.machine_walk.proofs.Stories.{AreEach}
 use Rattle.sound_runs.proofs.ViewFolds.{view_push, users_of, live_is, copy_is, bytes_are, sent_is, rogue_is, causes_are, marks_are}
 use Rattle.sound_runs.proofs.FileSo.{CannotReach, IsReached, IsFreedSo, FirstSo, AgainSo, CleanSo, DirtySo, IsEntrySo}
 use Rattle.sound_runs.proofs.StaySo.{same_mirror}
@@ -139,7 +140,7 @@ module _ (journal : List Entry) (place : AreInPlace [] journal) (empty : AreNewM
             let whole : journal ≡ front ++ entry.Applied m c pos bytes ∷ (rest ++ entry.Granted file cred holder ∷ behind) = at ∙ (ap (λ l. l ++ entry.Granted file cred holder ∷ behind) split ∙ append_assoc front (entry.Applied m c pos bytes ∷ rest) (entry.Granted file cred holder ∷ behind)) in
             by_whose (copies.applied front (rest ++ entry.Granted file cred holder ∷ behind) m c pos bytes whole).whose
           where
-            by_whose : IsGrantedWrite front c.0 (the_write pos bytes) ⊎ IsQuietWrite journal front m c.0 (the_write pos bytes) → ⊥
+            by_whose : IsUsersWrite front c.0 (the_write pos bytes) ⊎ IsQuietWrite journal front m c.0 (the_write pos bytes) → ⊥
             by_whose (inl w) =
                 not_both (was_granted before cred.0)
                 (subst (λ (j : List Entry). was_granted j cred.0 ≡ true) (sym split) (granted_more cred.0 front (entry.Applied m c pos bytes ∷ rest) (ap (was_granted front) (sym same) ∙ w.granted))) new
@@ -157,7 +158,7 @@ module _ (journal : List Entry) (place : AreInPlace [] journal) (empty : AreNewM
         owner_is : (m : MirrorId) → is_mirror mirror m ≡ true → cred.0 ≡ (content_of before m).owner
         owner_is m same = a.owner ∙ ap (λ (k : MirrorId). (content_of before k).owner) (same_mirror mirror m same)
 
-        by_period : (m : MirrorId) → is_among m v.live ≡ true → is_mirror mirror m ≡ true → IsGrantedWrite before cred.0 (the_write pos bytes) → (v.periods ≡ cred.0 ∷ []) ⊎ CannotReach v cred.0 → IsAppliedSoundly v m cred.0 pos bytes
+        by_period : (m : MirrorId) → is_among m v.live ≡ true → is_mirror mirror m ≡ true → IsUsersWrite before cred.0 (the_write pos bytes) → (v.periods ≡ cred.0 ∷ []) ⊎ CannotReach v cred.0 → IsAppliedSoundly v m cred.0 pos bytes
         by_period m among same w (inl period) = OfPeriod period (noted w.noted)
           where
             noted : IsIn (the_write pos bytes) (sent_of cred.0 before) ⊎ IsIn (the_write pos bytes) (rogue_of cred.0 before) → IsIn (the_write pos bytes) (v.sent cred.0) ⊎ IsIn (the_write pos bytes) (v.rogue cred.0)
@@ -168,7 +169,7 @@ module _ (journal : List Entry) (place : AreInPlace [] journal) (empty : AreNewM
             let its : (v.copy m).owner ≡ cred.0 = ap (λ (c : Copy). c.owner) (copy_is f m before) ∙ sym (owner_is m same) in
             absurd (omega (arith, less, its))
 
-        by_whose : (m : MirrorId) → is_among m v.live ≡ true → is_mirror mirror m ≡ true → IsGrantedWrite before cred.0 (the_write pos bytes) ⊎ IsQuietWrite journal before mirror cred.0 (the_write pos bytes) → IsAppliedSoundly v m cred.0 pos bytes
+        by_whose : (m : MirrorId) → is_among m v.live ≡ true → is_mirror mirror m ≡ true → IsUsersWrite before cred.0 (the_write pos bytes) ⊎ IsQuietWrite journal before mirror cred.0 (the_write pos bytes) → IsAppliedSoundly v m cred.0 pos bytes
         by_whose m among same (inl w) =
             let its = owner_is m same in
             let user : IsUser (content_of before m).owner (users_of before f) = finds f m (ap (is_among m) (sym (live_is f before)) ∙ among) (ap (was_granted before) (sym its) ∙ w.granted) in

@@ -1,6 +1,3 @@
-pub mod Stories
-pub mod MoveCases
-pub mod MoveRuns
 pub mod ViewFolds
 pub mod FileTurns
 pub mod FileSo
@@ -18,16 +15,6 @@ pub mod Serving
 pub mod SoFar
 pub mod SoundSteps
 pub mod CallLayouts
-pub mod Placed
-pub mod StepKinds
-pub mod StepsByKind
-pub mod Writers
-pub mod Noted
-pub mod WriterFacts
-pub mod WriterSteps
-pub mod WriterServes
-pub mod WriterCases
-pub mod WriterRuns
 pub mod Owners
 pub mod OwnerSteps
 pub mod AllCases

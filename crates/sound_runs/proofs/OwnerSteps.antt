@@ -33,14 +33,14 @@ use Rattle.cluster_laws.proofs.Invariant.{IsFile, IsInFence, IsMirrorOf, live_of
 use Rattle.cluster_laws.proofs.KnownNow.{all_stand, known_now, id_by}
 use Rattle.cluster_laws.proofs.PeriodFacts.{granted_in}
 use Rattle.cluster_laws.proofs.PeriodStates.{IsMine}
-use Rattle.sound_runs.proofs.Stories.{Story, begun_copy, IsOnward, IsMoment}
-use Rattle.sound_runs.proofs.MoveCases.{Drew, DrewNone, DrewOne, after_step, IsStepBy}
-use Rattle.sound_runs.proofs.Placed.{IfCall}
-use Rattle.sound_runs.proofs.StepKinds.{IsTakenWith, NoWrite, OneWrite, StepKind}
-use Rattle.sound_runs.proofs.StepsByKind.{phase_kind}
-use Rattle.sound_runs.proofs.Writers.{HasUids, IsSilent, IsGrantOf, grant_or}
-use Rattle.sound_runs.proofs.WriterFacts.{KnowsWriters}
-use Rattle.sound_runs.proofs.WriterSteps.{drew_on}
+use Rattle.machine_walk.proofs.Stories.{Story, begun_copy, IsOnward, IsMoment}
+use Rattle.machine_walk.proofs.MoveCases.{Drew, DrewNone, DrewOne, after_step, IsStepBy}
+use Rattle.machine_walk.proofs.Placed.{IfCall}
+use Rattle.machine_walk.proofs.StepKinds.{IsTakenWith, NoWrite, OneWrite, StepKind}
+use Rattle.machine_walk.proofs.StepsByKind.{phase_kind}
+use Rattle.machine_walk.proofs.Writers.{HasUids, IsSilent, IsGrantOf, grant_or}
+use Rattle.machine_walk.proofs.WriterFacts.{KnowsWriters}
+use Rattle.machine_walk.proofs.WriterSteps.{drew_on}
 use Rattle.sound_runs.proofs.ViewFolds.{users_after, users_by, users_of, users_append}
 use Rattle.sound_runs.proofs.StaySo.{same_mirror}
 use Rattle.sound_runs.proofs.OnceGranted.{IsUser}

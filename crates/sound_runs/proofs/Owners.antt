@@ -24,8 +24,8 @@ use Rattle.cluster_laws.proofs.Invariant.{at_server, IsCallOf, Holds}
 use Rattle.cluster_laws.proofs.Draws.{new_home, new_low}
 use Rattle.cluster_laws.proofs.KnownNow.{stands}
 use Rattle.cluster_laws.proofs.PeriodStates.{IsMine}
-use Rattle.sound_runs.proofs.Stories.{Story, drawn_story, IsOnward, onward_drawn}
-use Rattle.sound_runs.proofs.Writers.{HasUids}
+use Rattle.machine_walk.proofs.Stories.{Story, drawn_story, IsOnward, onward_drawn}
+use Rattle.machine_walk.proofs.Writers.{HasUids}
 use Rattle.sound_runs.proofs.ViewFolds.{users_after, users_by, users_of}
 use Rattle.sound_runs.proofs.OnceGranted.{IsUser}
 

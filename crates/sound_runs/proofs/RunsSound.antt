@@ -15,11 +15,11 @@ use Rattle.cluster_laws.specs.Holders.{IsCovered, IsIn}
 use Rattle.sound_journals.specs.Marks.{marks_of}
 use Rattle.sound_runs.specs.BoundJournals.{BoundRunsAreSound}
 use Rattle.cluster_laws.proofs.Runs.{start_holds, start_periods}
-use Rattle.sound_runs.proofs.Stories.{IsMoment, AreEach, each_at, each_weaker}
-use Rattle.sound_runs.proofs.MoveRuns.{run_done}
+use Rattle.machine_walk.proofs.Stories.{IsMoment, AreEach, each_at, each_weaker}
+use Rattle.machine_walk.proofs.MoveRuns.{run_done}
 use Rattle.sound_runs.proofs.SoFar.{IsSoFar}
-use Rattle.sound_runs.proofs.WriterRuns.{first_story, first_writers}
-use Rattle.sound_runs.proofs.Writers.{IsCopier}
+use Rattle.machine_walk.proofs.WriterRuns.{first_story, first_writers}
+use Rattle.machine_walk.proofs.Writers.{IsCopier}
 use Rattle.sound_runs.proofs.AllCases.{IsAllNoted, AllSo, first_owners}
 use Rattle.sound_runs.proofs.FirstFrees.{AreNewMirrorsEmpty}
 use Rattle.sound_runs.proofs.BlankFiles.{KnowsBlank}

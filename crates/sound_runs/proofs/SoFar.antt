@@ -18,7 +18,7 @@ use Rattle.sound_journals.specs.Views.{FileView, view_by, no_view, view_of}
 use Rattle.sound_journals.specs.Sound.{AreToldEntries}
 use Rattle.cluster_laws.proofs.Lists.{all_append, all_more, put_same, put_other, same_numbered}
 use Rattle.cluster_laws.proofs.Invariant.{live_of}
-use Rattle.sound_runs.proofs.Stories.{Story, AreEach}
+use Rattle.machine_walk.proofs.Stories.{Story, AreEach}
 use Rattle.sound_runs.proofs.ViewFolds.{view_append, view_push, users_by, users_of, users_append}
 use Rattle.sound_runs.proofs.FileTurns.{IsGrantWith, NoWrite, OneWrite}
 use Rattle.sound_runs.proofs.FileSo.{IsPhaseSo, IsReached, IsFileSo, IsEntrySo, AreEntriesSo, file_in}

@@ -34,8 +34,8 @@ use Rattle.cluster_laws.proofs.Invariant.{IsCallOf, IsPacket, net_of}
 use Rattle.cluster_laws.proofs.KnownNow.{known_now}
 use Rattle.cluster_laws.proofs.RunFacts.{owner_told}
 use Rattle.cluster_laws.proofs.PeriodFacts.{AreInPlace}
-use Rattle.sound_runs.proofs.Stories.{Story, IsMoment, AreEach}
-use Rattle.sound_runs.proofs.MoveCases.{after_step, after_call, created_machine, IsStepBy}
+use Rattle.machine_walk.proofs.Stories.{Story, IsMoment, AreEach}
+use Rattle.machine_walk.proofs.MoveCases.{after_step, after_call, created_machine, IsStepBy}
 use Rattle.sound_runs.proofs.ViewFolds.{view_push, users_of, sent_is, rogue_is, causes_are, marks_are, copy_is}
 use Rattle.sound_runs.proofs.FileTurns.{FileTurn, IsCoveredAt}
 use Rattle.sound_runs.proofs.FileSo.{IsReached, IsFileSo}

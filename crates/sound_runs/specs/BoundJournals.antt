@@ -10,17 +10,13 @@ use Rattle.cluster_model.specs.Journal.{is_mirror, content_of}
 use Rattle.cluster_laws.specs.Machine.{Move, new_machine, journal_of}
 use Rattle.cluster_laws.specs.FenceLaw.{live_in, new_servers}
 use Rattle.cluster_laws.specs.Periods.{was_granted}
-use Rattle.cluster_laws.specs.Agreement.{sent_of, rogue_of, bytes_of, IsNoChange, Has}
-use Rattle.cluster_laws.specs.Holders.{IsIn, the_write, AreBound}
+use Rattle.cluster_laws.specs.Agreement.{bytes_of, IsNoChange, Has}
+use Rattle.cluster_laws.specs.Holders.{the_write, AreBound}
+use Rattle.machine_walk.specs.Owners.{IsUsersWrite}
 use Rattle.sound_journals.specs.Views.{no_view, view_of}
 use Rattle.sound_journals.specs.Sound.{AllLive, EndsPeriod, AreSoundEntries, AreToldEntries}
 
 -- ---- what is asked of copies
-
--- a write of a user that some file was granted to: one that was taken, or that strayed
-pub record IsGrantedWrite (before : List Entry) (uid : ℕ) (w : Pending) : Type 0 where
-  pub noted : IsIn w (sent_of uid before) ⊎ IsIn w (rogue_of uid before)
-  pub granted : was_granted before uid ≡ true
 
 -- a write under a user that nobody is ever granted, which changes nothing wherever the mirror is live
 pub record IsQuietWrite (journal before : List Entry) (mirror : MirrorId) (uid : ℕ) (w : Pending) : Type 0 where
@@ -30,7 +26,7 @@ pub record IsQuietWrite (journal before : List Entry) (mirror : MirrorId) (uid :
 -- A write is applied under the user that the mirror belongs to: a user's own, or one of a copy.
 pub record IsAppliedInPlace (journal before : List Entry) (mirror : MirrorId) (uid : ℕ) (w : Pending) : Type 0 where
   pub owner : uid ≡ (content_of before mirror).owner
-  pub whose : IsGrantedWrite before uid w ⊎ IsQuietWrite journal before mirror uid w
+  pub whose : IsUsersWrite before uid w ⊎ IsQuietWrite journal before mirror uid w
 
 -- Of a journal: so each write is applied; a mirror comes in with the bytes of the first live one; and behind a dirty end a file is free
 -- with the same bytes at all live mirrors.

@@ -26,9 +26,9 @@ use Rattle.cluster_laws.specs.FenceLaw.{live_in}
 use Rattle.cluster_laws.proofs.Invariant.{Drawn, IsMirrorOf, IsFile, live_of, net_of, Holds}
 use Rattle.cluster_laws.proofs.Moves.{next_number, move_ok}
 use Rattle.cluster_laws.proofs.PeriodFacts.{granted_in}
-use Rattle.sound_runs.proofs.Stories.{AreEach, each_more}
-use Rattle.sound_runs.proofs.StepsByKind.{phase_kind}
-use Rattle.sound_runs.proofs.Writers.{IsSilent}
+use Rattle.machine_walk.proofs.Stories.{AreEach, each_more}
+use Rattle.machine_walk.proofs.StepsByKind.{phase_kind}
+use Rattle.machine_walk.proofs.Writers.{IsSilent}
 use Rattle.held_mirrors.proofs.GrantSteps.{GrantsFile, grants_or}
 use Rattle.held_mirrors.proofs.Holdings.{effect_grantless, taken_grantless, all_silent}
 

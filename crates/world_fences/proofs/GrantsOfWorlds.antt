@@ -15,7 +15,7 @@ use Rattle.cluster_laws.specs.Machine.{Move, new_machine, journal_of}
 use Rattle.cluster_laws.specs.FenceLaw.{live_in, new_servers}
 use Rattle.cluster_laws.specs.Telling.{is_telling, telling, SaysTheSame, MakesTelling}
 use Rattle.cluster_laws.proofs.Runs.{none_drawn, start_holds}
-use Rattle.sound_runs.proofs.Stories.{AreEach, each_at}
+use Rattle.machine_walk.proofs.Stories.{AreEach, each_at}
 use Rattle.world_rule.specs.ClusterWorlds.{ClusterState}
 use Rattle.world_moves.specs.WorldMoves.{IsRunOf}
 use Rattle.world_fences.proofs.GrantsOfRuns.{AreAboveRoot, IsPlacedGrant, run_placed}

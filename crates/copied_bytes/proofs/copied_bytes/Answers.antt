@@ -1,4 +1,3 @@
-use Rattle.copied_bytes.proofs.WriterRuns.{applied_by_owners}
 use Rattle.copied_bytes.proofs.SourceRuns.{swaps_from_stable}
 use Rattle.copied_bytes.proofs.AlikeRuns.{frees_alike}
 use Rattle.copied_bytes.proofs.LiveRuns.{copies_leave_as_shown}
@@ -6,7 +5,7 @@ use Rattle.copied_bytes.proofs.TargetRuns.{swaps_in_alike}
 use Rattle.copied_bytes.proofs.copied_bytes.Goals as goal
 
 pub returns-clause-applied : goal.returns-clause-applied
-returns-clause-applied c = λ boots moves. applied_by_owners c.server_guards.ensures.new c.server_guards.ensures.calls c.server_guards.ensures.restarts boots moves
+returns-clause-applied c = c.owners_law.ensures
 
 pub returns-clause-sources : goal.returns-clause-sources
 returns-clause-sources c = λ boots moves. swaps_from_stable c.server_guards.ensures.calls c.server_guards.ensures.restarts c.server_guards.ensures.new boots moves

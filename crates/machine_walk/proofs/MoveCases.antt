@@ -1,24 +1,28 @@
 -- A predicate of moments that each kind of move keeps holds behind every bound run.
-use Rattle.std.proofs.Common.{◌≡◌, ℕ, ◌+◌, ◌-◌, ◌<◌, ◌≤◌, true, List, [], ◌∷◌, ◌++◌, length, set, Some, None}
+use Rattle.std.proofs.Common.{◌≡◌, ◌≢◌, ℕ, ◌+◌, ◌-◌, ◌<◌, ◌≤◌, true, List, [], ◌∷◌, ◌++◌, length, set, Option, Some, None}
 use Rattle.std.specs.Prelude.{slice_get}
+use Rattle.std.specs.List.{AllByRecursion}
 use Rattle.cluster_model.specs.declared.piece.Piece.{Piece}
 use Rattle.cluster_model.specs.declared.ids.FileId.{FileId}
 use Rattle.cluster_model.specs.declared.ids.NodeId.{NodeId}
 use Rattle.cluster_model.specs.declared.ids.NodeId.TheVariants.{Mds}
+use Rattle.cluster_model.specs.declared.ids.MirrorId.{MirrorId}
 use Rattle.cluster_model.specs.declared.entry.Entry.{Entry}
 use Rattle.cluster_model.specs.declared.entry.Entry.TheVariants as entry
+use Rattle.cluster_model.specs.Journal.{Copy, copy_after}
 use Rattle.cluster_model.specs.Server.{ServerState, restart_of}
-use Rattle.cluster_model.specs.DsCalls.{DsCallValue, ds_step}
+use Rattle.cluster_model.specs.DsCalls.{DsCallValue, DsReplyValue, ds_step}
 use Rattle.cluster_model.specs.Phases.{ids_of}
 use Rattle.file_rule.specs.MdsFiles.{MdsFile, FileStep, a_uid}
-use Rattle.file_rule.specs.FilePhases.{FileInput, CallOut, call_out, new_mds_file, phase}
-use Rattle.cluster_laws.specs.Machine.{PacketValue, Call, Machine, numbered_at, with_number, with_file, with_server, with_packets, puts_out, served, held_by, file_id, fresh_of, caller_by, may_create, may_use, may_number}
+use Rattle.file_rule.specs.FilePhases.{FileInput, Answers, CallOut, call_out, new_mds_file, phase}
+use Rattle.cluster_laws.specs.Machine.{PacketValue, Call, Reply, Machine, numbered_at, with_number, with_file, with_server, with_packets, puts_out, served, held_by, file_id, fresh_of, caller_by, may_create, may_use, may_number}
+use Rattle.cluster_laws.specs.FenceLaw.{live_after}
 use Rattle.cluster_laws.specs.Holders.{HeldUnder, MayTake, HasNotEndedClean, MayTell, IsBoundCall, IsBoundInput}
 use Rattle.cluster_laws.proofs.Invariant.{AreRight, net_of, Holds}
 use Rattle.cluster_laws.proofs.PhaseOk.{IsInput}
 use Rattle.cluster_laws.proofs.CallsOut.{mds_call}
 use Rattle.cluster_laws.proofs.PeriodFacts.{AreInPlace}
-use Rattle.sound_runs.proofs.Stories.{Story, begun_copy, drawn_story, IsOnward, AreEach, IsMoment}
+use Rattle.machine_walk.proofs.Stories.{Story, begun_copy, drawn_story, IsOnward, AreEach, IsMoment}
 
 -- the story behind a step of a file
 pub data Drew (t : Story) (m : Machine) (journal : List Entry) (n : ℕ) (s : FileStep) : Story → Type 0 where
@@ -51,14 +55,28 @@ created_machine m servers = record {
   holdings = m.holdings;
 }
 
+-- an answer that is taken stands among the packets
+pub record HasReply (packets : List PacketValue) (xid : ℕ) (reply : DsReplyValue) : Type 0 where
+  pub place : ℕ
+  pub call : ℕ
+  pub server : ℕ
+  pub there : slice_get packets place ≡ Some (Reply call server Mds xid reply)
+
+abbrev pub IsHeard : List PacketValue → FileInput → Type 0
+IsHeard packets (Answers xid reply) = HasReply packets xid reply
+IsHeard packets _ = Unit {0}
+
 -- what a step of a file comes with
 pub record IsStepBy (t : Story) (m : Machine) (journal : List Entry) (n : ℕ) (f : MdsFile) (input : FileInput) (then : Story) : Type 0 where
   pub there : numbered_at m.files n ≡ Some f
   pub brought : IsInput (net_of m t.drawn) f input
   pub bound : IsBoundInput m.packets journal input (Some f)
   pub drew : Drew t m journal n (phase (file_id n) f input (fresh_of m)) then
+  pub heard : IsHeard m.packets input
   pub right : AreRight journal (phase (file_id n) f input (fresh_of m)).entries
   pub place : AreInPlace journal (phase (file_id n) f input (fresh_of m)).entries
+  pub copies : AllByRecursion (λ e. (id : MirrorId) (c : Copy) → copy_after id c e ≡ c) (phase (file_id n) f input (fresh_of m)).entries
+  pub others : AllByRecursion (λ e. (k : ℕ) → k ≢ n → (x : Option (List MirrorId)) → live_after (file_id k) x e ≡ x) (phase (file_id n) f input (fresh_of m)).entries
   pub holds : Holds (after_step m n (phase (file_id n) f input (fresh_of m))) (journal ++ (phase (file_id n) f input (fresh_of m)).entries) then.drawn
 
 -- what has to be shown of a predicate, and of the entries

@@ -1,5 +1,5 @@
 -- A predicate of moments that each kind of move keeps holds behind every bound run, and so do its entries.
-use Rattle.std.proofs.Common.{◌≡◌, ℕ, ◌+◌, ◌-◌, ◌<◌, ◌≤◌, true, eqb, ltb, ◌&&◌, not, List, [], ◌∷◌, ◌++◌, length, set, Option, Some, None, refl, sym, subst, ◌∙◌, arith, append_assoc, append-nil}
+use Rattle.std.proofs.Common.{◌≡◌, ◌≢◌, ℕ, ◌+◌, ◌-◌, ◌<◌, ◌≤◌, true, eqb, ltb, ◌&&◌, not, List, [], ◌∷◌, ◌++◌, length, set, Option, Some, None, refl, sym, subst, ◌∙◌, arith, append_assoc, append-nil}
 use Rattle.std.specs.Prelude.{slice_get}
 use Rattle.std.specs.List.{AllByRecursion}
 use Rattle.std.proofs.lemmas.Bool.{cond_both, and_parts, ltb-true}
@@ -11,6 +11,7 @@ use Rattle.cluster_model.specs.declared.ids.NodeId.TheVariants.{Mds, Server, Cli
 use Rattle.cluster_model.specs.declared.ids.MirrorId.{MirrorId}
 use Rattle.cluster_model.specs.declared.entry.Entry.{Entry}
 use Rattle.cluster_model.specs.declared.entry.Entry.TheVariants as entry
+use Rattle.cluster_model.specs.Journal.{Copy, copy_after}
 use Rattle.cluster_model.specs.Server.{ServerState, Caller, restart_of}
 use Rattle.cluster_model.specs.DsCalls.{DsCallValue, DsReplyValue, ds_step}
 use Rattle.cluster_model.specs.GuardLaws.{IsInOrder, CallLaws, RestartLaws}
@@ -25,22 +26,27 @@ use Rattle.cluster_laws.proofs.Facts.{HasGiven}
 use Rattle.cluster_laws.proofs.Onward.{packet_on}
 use Rattle.cluster_laws.proofs.Served.{served_holds}
 use Rattle.cluster_laws.proofs.Restarted.{restarted_holds}
-use Rattle.cluster_laws.proofs.Moved.{moved_holds}
+use Rattle.cluster_laws.specs.FenceLaw.{live_after}
+use Rattle.cluster_laws.proofs.Moved.{IsNote, moved_holds}
 use Rattle.cluster_laws.proofs.PhaseOk.{IsInput, phase_ok}
 use Rattle.cluster_laws.proofs.CopySteps.{StepOk, Plain, Draws}
 use Rattle.cluster_laws.proofs.CallsOut.{sent_net, mds_call, later_sent, call_out_ok}
 use Rattle.cluster_laws.proofs.Bounded.{bounded_now}
 use Rattle.cluster_laws.proofs.KnownNow.{all_stand, known_now}
-use Rattle.cluster_laws.proofs.Stepped.{plain_holds, drawn_holds, few_by, none_more, one_more}
+use Rattle.cluster_laws.proofs.Stepped.{note_copies, plain_holds, drawn_holds, few_by, none_more, one_more}
 use Rattle.cluster_laws.proofs.SentPackets.{IsQuiet, with_packet, later_with, sent_holds, free_call, noted_holds}
 use Rattle.cluster_laws.proofs.NewFiles.{created_holds}
 use Rattle.cluster_laws.proofs.Moves.{brought, answers_input, heard_input, tick_input, next_number}
+use Rattle.cluster_laws.proofs.PeriodMoves.{move_periods}
 use Rattle.cluster_laws.proofs.PeriodFacts.{AreInPlace}
 use Rattle.cluster_laws.proofs.PeriodStates.{PeriodOk, Plain as PlainPeriod, Draws as DrawsPeriod}
 use Rattle.cluster_laws.proofs.PeriodPhases.{phase_row}
-use Rattle.cluster_laws.proofs.PeriodMoves.{move_periods}
-use Rattle.sound_runs.proofs.Stories.{reached_on, Story, begun_copy, drawn_story, IsOnward, onward_same, onward_drawn, onward_then, AreEach, each_more, each_weaker, IsMoment, Done}
-use Rattle.sound_runs.proofs.MoveCases.{Drew, DrewNone, DrewOne, after_step, after_call, created_machine, Cases}
+use Rattle.machine_walk.proofs.Stories.{reached_on, Story, begun_copy, drawn_story, IsOnward, onward_same, onward_drawn, onward_then, AreEach, each_more, each_weaker, IsMoment, Done}
+use Rattle.machine_walk.proofs.MoveCases.{Drew, DrewNone, DrewOne, after_step, after_call, created_machine, HasReply, IsHeard, Cases}
+
+-- the entries of a file say nothing of the live list of another
+note_others : (n next_uid : ℕ) (entries : List Entry) → AllByRecursion (IsNote n next_uid) entries → AllByRecursion (λ e. (k : ℕ) → k ≢ n → (x : Option (List MirrorId)) → live_after (file_id k) x e ≡ x) entries
+note_others n next_uid entries h = all_more (IsNote n next_uid) (λ e. (k : ℕ) → k ≢ n → (x : Option (List MirrorId)) → live_after (file_id k) x e ≡ x) entries (λ e k. k.others) h
 
 module _ (P : Story → Machine → List Entry → Type 0) (Q : Story → ℕ → List Entry → Entry → Type 0) (cases : Cases P Q)
     (calls : (s : ServerState) (caller : Caller) (call : DsCallValue) → IsInOrder s → CallLaws s caller call (ds_step s caller call).server (ds_step s caller call).reply (ds_step s caller call).entries)
@@ -64,7 +70,7 @@ module _ (P : Story → Machine → List Entry → Type 0) (Q : Story → ℕ �
 
     -- ---- a file takes a step
 
-    module _ (n : ℕ) (f : MdsFile) (there : numbered_at m.files n ≡ Some f) (input : FileInput) (brings : IsInput (net_of m t.drawn) f input) (bound : IsBoundInput m.packets journal input (Some f)) where
+    module _ (n : ℕ) (f : MdsFile) (there : numbered_at m.files n ≡ Some f) (input : FileInput) (brings : IsInput (net_of m t.drawn) f input) (bound : IsBoundInput m.packets journal input (Some f)) (heard : IsHeard m.packets input) where
       abbrev s : FileStep
       s = phase (file_id n) f input (fresh_of m)
 
@@ -75,9 +81,9 @@ module _ (P : Story → Machine → List Entry → Type 0) (Q : Story → ℕ �
       its_place : AreInPlace journal s.entries
       its_place = place_by (phase_row net at.fenced n m.next_uid (length m.files) (length m.servers) journal (known_now m journal t.drawn at.holds) at.periods.below f (at.holds.files n f there) (at.periods.files n f there) input brings)
 
-      stepped : (then : Story) → Drew t m journal n s then → AreRight journal s.entries → IsOnward t m.next_uid m.next_name then → Holds (after_step m n s) (journal ++ s.entries) then.drawn → Ok (record { machine = after_step m n s; entries = s.entries })
-      stepped then drew right on h =
-          let done = cases.steps t m journal at p n f input then (record { there = there; brought = brings; bound = bound; drew = drew; right = right; place = its_place; holds = h }) in
+      stepped : (then : Story) → Drew t m journal n s then → AreRight journal s.entries → AllByRecursion (λ e. (id : MirrorId) (c : Copy) → copy_after id c e ≡ c) s.entries → AllByRecursion (λ e. (k : ℕ) → k ≢ n → (x : Option (List MirrorId)) → live_after (file_id k) x e ≡ x) s.entries → IsOnward t m.next_uid m.next_name then → Holds (after_step m n s) (journal ++ s.entries) then.drawn → Ok (record { machine = after_step m n s; entries = s.entries })
+      stepped then drew right copies others on h =
+          let done = cases.steps t m journal at p n f input then (record { there = there; brought = brings; bound = bound; drew = drew; heard = heard; right = right; place = its_place; copies = copies; others = others; holds = h }) in
           record { then = then; holds = h; on = on; uids = omega arith; names = omega arith; kept = done.0; each = done.1 }
 
       abbrev held : List Holding
@@ -88,12 +94,12 @@ module _ (P : Story → Machine → List Entry → Type 0) (Q : Story → ℕ �
 
       turned : m.next_name + s.names ≤ 18446744073709551616 → StepOk net journal n m.next_uid s → Ok (record { machine = after_step m n s; entries = s.entries })
       turned few (Plain uids names row) =
-          stepped t (DrewNone uids names) row.right (onward_same t m.next_uid m.next_name)
+          stepped t (DrewNone uids names) row.right (note_copies n m.next_uid s.entries row.notes) (note_others n m.next_uid s.entries row.notes) (onward_same t m.next_uid m.next_name)
           (subst (λ (uid : ℕ). Holds (shaped uid (m.next_name + s.names)) (journal ++ s.entries) t.drawn) (none_more m journal t.drawn at.holds m.next_uid s.uids uids)
           (subst (λ (name : ℕ). Holds (shaped m.next_uid name) (journal ++ s.entries) t.drawn) (none_more m journal t.drawn at.holds m.next_name s.names names)
           (plain_holds m journal t.drawn at.holds n f there s.file s.entries held row)))
       turned few (Draws uids row) =
-          stepped (drawn_story t m.next_name n m.next_uid (begun_copy journal n s.file.activity)) (DrewOne uids) row.right (onward_drawn t m.next_uid m.next_name n (begun_copy journal n s.file.activity))
+          stepped (drawn_story t m.next_name n m.next_uid (begun_copy journal n s.file.activity)) (DrewOne uids) row.right (note_copies n (m.next_uid + 1) s.entries row.notes) (note_others n (m.next_uid + 1) s.entries row.notes) (onward_drawn t m.next_uid m.next_name n (begun_copy journal n s.file.activity))
           (subst (λ (uid : ℕ). Holds (shaped uid (m.next_name + s.names)) (journal ++ s.entries) (drawn_story t m.next_name n m.next_uid (begun_copy journal n s.file.activity)).drawn) (one_more m journal t.drawn at.holds m.next_uid s.uids uids)
           (drawn_holds m journal t.drawn at.holds n f there s.file s.entries held s.names few row))
 
@@ -103,23 +109,24 @@ module _ (P : Story → Machine → List Entry → Type 0) (Q : Story → ℕ �
           (λ e. turned (few_by m journal t.drawn at.holds s.uids s.names e) (phase_ok net n m.next_uid (length m.files) (length m.servers) journal (known_now m journal t.drawn at.holds) f (at.holds.files n f there) input brings))
           (λ e. none)
 
-    takes : (n : ℕ) (input : FileInput) → ((f : MdsFile) → numbered_at m.files n ≡ Some f → IsInput net f input) → ((f : MdsFile) → numbered_at m.files n ≡ Some f → IsBoundInput m.packets journal input (Some f)) → (f : Option MdsFile) → numbered_at m.files n ≡ f → Ok (file_takes m n input f)
-    takes n input given bound None there = none
-    takes n input given bound (Some f) there = its_step n f there input (given f there) (bound f there)
+    takes : (n : ℕ) (input : FileInput) → ((f : MdsFile) → numbered_at m.files n ≡ Some f → IsInput net f input) → ((f : MdsFile) → numbered_at m.files n ≡ Some f → IsBoundInput m.packets journal input (Some f)) → IsHeard m.packets input
+        → (f : Option MdsFile) → numbered_at m.files n ≡ f → Ok (file_takes m n input f)
+    takes n input given bound heard None there = none
+    takes n input given bound heard (Some f) there = its_step n f there input (given f there) (bound f there) heard
 
     -- ---- answers
 
-    answers : (server xid : ℕ) (reply : DsReplyValue) → IsAnswer m.packets m.servers server Mds xid reply → (place : Option ℕ) → file_of m.files server xid ≡ place → Ok (answers_at m xid reply place)
-    answers server xid reply answer None is = none
-    answers server xid reply answer (Some place) is = takes (place + 1) (Answers xid reply) (answers_input m journal t.drawn at.holds server xid reply answer place is) (λ f k. tt) (slice_get m.files place) (next_number m.files place)
+    answers : (server xid : ℕ) (reply : DsReplyValue) → HasReply m.packets xid reply → IsAnswer m.packets m.servers server Mds xid reply → (place : Option ℕ) → file_of m.files server xid ≡ place → Ok (answers_at m xid reply place)
+    answers server xid reply heard answer None is = none
+    answers server xid reply heard answer (Some place) is = takes (place + 1) (Answers xid reply) (answers_input m journal t.drawn at.holds server xid reply answer place is) (λ f k. tt) heard (slice_get m.files place) (next_number m.files place)
 
-    hears_at : (k server xid : ℕ) (reply : DsReplyValue) (to : NodeId) → IsAnswer m.packets m.servers server to xid reply → (f : Option MdsFile) → numbered_at m.files k ≡ f → Ok (heard_at m k server xid reply to f)
-    hears_at k server xid reply to answer None there = none
-    hears_at k server xid reply Mds answer (Some f) there =
+    hears_at : (k place call server xid : ℕ) (reply : DsReplyValue) (to : NodeId) → slice_get m.packets place ≡ Some (Reply call server to xid reply) → IsAnswer m.packets m.servers server to xid reply → (f : Option MdsFile) → numbered_at m.files k ≡ f → Ok (heard_at m k server xid reply to f)
+    hears_at k place call server xid reply to sent answer None there = none
+    hears_at k place call server xid reply Mds sent answer (Some f) there =
         cond_both (is_outstanding f server xid) (file_takes m k (Answers xid reply) (Some f)) (no_move m) Ok
-        (λ out. takes k (Answers xid reply) (λ g is. heard_input m journal t.drawn at.holds server xid reply answer g (subst (λ (x : MdsFile). is_outstanding x server xid ≡ true) (same_Some f g (sym there ∙ is)) out)) (λ g is. tt) (Some f) there) (λ off. none)
-    hears_at k server xid reply (Server n) answer (Some f) there = none
-    hears_at k server xid reply (Client n) answer (Some f) there = none
+        (λ out. takes k (Answers xid reply) (λ g is. heard_input m journal t.drawn at.holds server xid reply answer g (subst (λ (x : MdsFile). is_outstanding x server xid ≡ true) (same_Some f g (sym there ∙ is)) out)) (λ g is. tt) (record { place = place; call = call; server = server; there = sent }) (Some f) there) (λ off. none)
+    hears_at k place call server xid reply (Server n) sent answer (Some f) there = none
+    hears_at k place call server xid reply (Client n) sent answer (Some f) there = none
 
     answer_at : (place call server : ℕ) (to : NodeId) (xid : ℕ) (reply : DsReplyValue) → slice_get m.packets place ≡ Some (Reply call server to xid reply) → IsAnswer m.packets m.servers server to xid reply
     answer_at place call server to xid reply there = (all_at (IsPacket net) m.packets place (Reply call server to xid reply) at.holds.packets there).answer
@@ -127,12 +134,12 @@ module _ (P : Story → Machine → List Entry → Type 0) (Q : Story → ℕ �
     hears : (k place : ℕ) (x : Option PacketValue) → slice_get m.packets place ≡ x → Ok (heard m k x)
     hears k place None there = none
     hears k place (Some (Call from server xid uid gid call)) there = none
-    hears k place (Some (Reply call server to xid reply)) there = hears_at k server xid reply to (answer_at place call server to xid reply there) (numbered_at m.files k) refl
+    hears k place (Some (Reply call server to xid reply)) there = hears_at k place call server xid reply to there (answer_at place call server to xid reply there) (numbered_at m.files k) refl
 
-    comes : (server xid : ℕ) (reply : DsReplyValue) (to : NodeId) → IsAnswer m.packets m.servers server to xid reply → Ok (comes_to m server xid reply to)
-    comes server xid reply Mds answer = answers server xid reply answer (file_of m.files server xid) refl
-    comes server xid reply (Server k) answer = none
-    comes server xid reply (Client k) answer = none
+    comes : (place call server xid : ℕ) (reply : DsReplyValue) (to : NodeId) → slice_get m.packets place ≡ Some (Reply call server to xid reply) → IsAnswer m.packets m.servers server to xid reply → Ok (comes_to m server xid reply to)
+    comes place call server xid reply Mds sent answer = answers server xid reply (record { place = place; call = call; server = server; there = sent }) answer (file_of m.files server xid) refl
+    comes place call server xid reply (Server k) sent answer = none
+    comes place call server xid reply (Client k) sent answer = none
 
     -- ---- data servers
 
@@ -146,7 +153,7 @@ module _ (P : Story → Machine → List Entry → Type 0) (Q : Story → ℕ �
     delivers : (place : ℕ) (x : Option PacketValue) → slice_get m.packets place ≡ x → Ok (delivered m place x)
     delivers place None there = none
     delivers place (Some (Call from server xid uid gid call)) there = arrives place from server xid uid gid call there (numbered_at m.servers server) refl
-    delivers place (Some (Reply call server to xid reply)) there = comes server xid reply to (answer_at place call server to xid reply there)
+    delivers place (Some (Reply call server to xid reply)) there = comes place call server xid reply to there (answer_at place call server to xid reply there)
 
     started : (n : ℕ) (pieces : List Piece) (s : ServerState) → numbered_at m.servers n ≡ Some s → (new : Option ServerState) → restart_of s pieces ≡ new → Ok (started_again m n pieces new)
     started n pieces s there None is = none
@@ -207,7 +214,7 @@ module _ (P : Story → Machine → List Entry → Type 0) (Q : Story → ℕ �
 
     ticks : (n : ℕ) (id : MirrorId) (tick : Option Tick) → ((k : Tick) → tick ≡ Some k → HasGiven m.servers id.server k) → Ok (learns_tick m n id (numbered_at m.files n) tick)
     ticks n id None given = none
-    ticks n id (Some tick) given = takes n (Sees id tick) (λ f there. given tick refl) (λ f there. tt) (numbered_at m.files n) refl
+    ticks n id (Some tick) given = takes n (Sees id tick) (λ f there. given tick refl) (λ f there. tt) tt (numbered_at m.files n) refl
 
     learns : (n place : ℕ) (id : MirrorId) (x : Option PacketValue) → slice_get m.packets place ≡ x → Ok (learnt m n id (numbered_at m.files n) x)
     learns n place id None there = none
@@ -218,8 +225,12 @@ module _ (P : Story → Machine → List Entry → Type 0) (Q : Story → ℕ �
     learns n place id (Some (Reply call server (Server k) xid reply)) there = none
     learns n place id (Some (Reply call server (Client k) xid reply)) there = none
 
+    not_heard : (input : FileInput) → comes_by_itself input ≡ true → IsHeard m.packets input
+    not_heard (Answers xid reply) e = absurd cc
+    not_heard _ e = tt
+
     happens : (n : ℕ) (input : FileInput) → ((f : MdsFile) → numbered_at m.files n ≡ Some f → IsBoundInput m.packets journal input (Some f)) → Ok (moved m (Happens n input))
-    happens n input bound = cond_both (comes_by_itself input) (file_takes m n input (numbered_at m.files n)) (no_move m) Ok (λ e. takes n input (λ f there. brought m journal t.drawn at.holds input e f) bound (numbered_at m.files n) refl) (λ e. none)
+    happens n input bound = cond_both (comes_by_itself input) (file_takes m n input (numbered_at m.files n)) (no_move m) Ok (λ e. takes n input (λ f there. brought m journal t.drawn at.holds input e f) bound (not_heard input e) (numbered_at m.files n) refl) (λ e. none)
 
     notes : (e : Entry) → IsQuiet m journal t.drawn at.holds e → P t m (journal ++ e ∷ []) × AreEach (Q t m.next_uid) journal (e ∷ []) → Ok (noted m e)
     notes e quiet done = record { then = t; holds = noted_holds m journal t.drawn at.holds e quiet; on = onward_same t m.next_uid m.next_name; uids = omega arith; names = omega arith; kept = done.0; each = done.1 }
@@ -257,7 +268,7 @@ module _ (P : Story → Machine → List Entry → Type 0) (Q : Story → ℕ �
     move_done (Happens k input) bound = happens k input (input_bound input (numbered_at m.files k) bound)
     move_done (CallsOut k xid) bound = calls_out k xid (numbered_at m.files k) refl
     move_done (SendsAgain place) bound = again place (slice_get m.packets place) refl
-    move_done (GivesUpWaiting k xid) bound = takes k (TimesOut xid) (λ f there. tt) (λ f there. tt) (numbered_at m.files k) refl
+    move_done (GivesUpWaiting k xid) bound = takes k (TimesOut xid) (λ f there. tt) (λ f there. tt) tt (numbered_at m.files k) refl
     move_done (Hears k place) bound = hears k place (slice_get m.packets place) refl
     move_done (Uses node server xid uid gid call) bound = uses node server xid uid gid call bound
     move_done (Learns k place id) bound = learns k place id (slice_get m.packets place) refl

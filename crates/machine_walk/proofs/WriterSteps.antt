@@ -26,13 +26,13 @@ use Rattle.cluster_laws.specs.Periods.{was_granted}
 use Rattle.cluster_laws.proofs.Lists.{all_append, all_more}
 use Rattle.cluster_laws.proofs.Invariant.{If}
 use Rattle.cluster_laws.proofs.PeriodFacts.{granted_in}
-use Rattle.copied_bytes.proofs.Stories.{Story, begun_copy, IsOnward, onward_same, onward_drawn}
-use Rattle.copied_bytes.proofs.MoveCases.{Drew, DrewNone, DrewOne}
-use Rattle.copied_bytes.proofs.StepKinds.{IsTakenWith, NoWrite, OneWrite}
-use Rattle.copied_bytes.proofs.Placed.{IfCall}
-use Rattle.copied_bytes.proofs.Writers.{IsPlainUid, HasUids, IsNewUid, is_applied, IsSilent, IsGrantOf}
-use Rattle.copied_bytes.proofs.Noted.{granted_behind, IsByUser, silent_users}
-use Rattle.copied_bytes.proofs.WriterFacts.{IsWriteCall, IsNoWrite}
+use Rattle.machine_walk.proofs.Stories.{Story, begun_copy, IsOnward, onward_same, onward_drawn}
+use Rattle.machine_walk.proofs.MoveCases.{Drew, DrewNone, DrewOne}
+use Rattle.machine_walk.proofs.StepKinds.{IsTakenWith, NoWrite, OneWrite}
+use Rattle.machine_walk.proofs.Placed.{IfCall}
+use Rattle.machine_walk.proofs.Writers.{IsPlainUid, HasUids, IsNewUid, is_applied, IsSilent, IsGrantOf}
+use Rattle.machine_walk.proofs.Noted.{granted_behind, IsByUser, silent_users}
+use Rattle.machine_walk.proofs.WriterFacts.{IsWriteCall, IsNoWrite}
 
 -- ---- what is drawn
 

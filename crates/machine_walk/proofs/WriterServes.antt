@@ -15,15 +15,15 @@ use Rattle.cluster_model.specs.DsCalls.{DsCallValue, Create, SetAttr, Write, Com
 use Rattle.cluster_model.specs.GuardLaws.{IsOwners, IsByOwner, IsTold}
 use Rattle.cluster_laws.specs.Periods.{was_granted}
 use Rattle.cluster_laws.specs.Holders.{the_write}
-use Rattle.sound_runs.specs.BoundJournals.{IsGrantedWrite}
+use Rattle.machine_walk.specs.Owners.{IsUsersWrite}
 use Rattle.cluster_laws.proofs.Lists.{all_append, all_more}
 use Rattle.cluster_laws.proofs.PeriodFacts.{granted_in}
-use Rattle.sound_runs.proofs.Stories.{Story, AreEach}
-use Rattle.sound_runs.proofs.Placed.{each_anywhere}
-use Rattle.sound_runs.proofs.Writers.{IsCopier, writer_in, is_applied}
-use Rattle.sound_runs.proofs.Noted.{noter, IsByUser}
-use Rattle.sound_runs.proofs.WriterSteps.{no_write}
-use Rattle.sound_runs.proofs.WriterFacts.{IsWriteCall, IsWrittenSo}
+use Rattle.machine_walk.proofs.Stories.{Story, AreEach}
+use Rattle.machine_walk.proofs.Placed.{each_anywhere}
+use Rattle.machine_walk.proofs.Writers.{IsCopier, writer_in, is_applied}
+use Rattle.machine_walk.proofs.Noted.{noter, IsByUser}
+use Rattle.machine_walk.proofs.WriterSteps.{no_write}
+use Rattle.machine_walk.proofs.WriterFacts.{IsWriteCall, IsWrittenSo}
 
 -- ---- the entries of data servers grant nothing, and note nothing of users
 
@@ -116,11 +116,11 @@ module _ (s : ServerState) (caller : Caller) where
 -- ---- who writes
 
 module _ (t : Story) (uid : ℕ) (journal : List Entry) (wrote : AllByRecursion (IsByUser journal) journal) (nobody : was_granted journal 0 ≡ false) (none : t.copied 0 ≡ None) where
-  pub whose_call : (user fileid at : ℕ) (synced : Bool) (bytes : List ℕ) → IsWriteCall t uid journal user (Write fileid at synced bytes) → IsGrantedWrite journal user (the_write at bytes) ⊎ IsCopier t uid user
+  pub whose_call : (user fileid at : ℕ) (synced : Bool) (bytes : List ℕ) → IsWriteCall t uid journal user (Write fileid at synced bytes) → IsUsersWrite journal user (the_write at bytes) ⊎ IsCopier t uid user
   whose_call user fileid at synced bytes (inl k) = inl (record { noted = k; granted = noter (λ u. was_granted journal u ≡ true) (the_write at bytes) user journal wrote k })
   whose_call user fileid at synced bytes (inr k) = inr k.by
 
-  pub not_root : (user : ℕ) (w : Pending) → IsGrantedWrite journal user w ⊎ IsCopier t uid user → user ≢ 0
+  pub not_root : (user : ℕ) (w : Pending) → IsUsersWrite journal user w ⊎ IsCopier t uid user → user ≢ 0
   not_root user w (inl k) = λ e. absurd_by (sym (ap (λ u. was_granted journal u) e ∙ nobody) ∙ k.granted)
     where
       absurd_by : false ≡ true → ⊥
@@ -131,7 +131,7 @@ module _ (t : Story) (uid : ℕ) (journal : List Entry) (wrote : AllByRecursion 
       absurd_by bytes e = cc
 
   module _ (s : ServerState) (caller : Caller) (told : IsTold s journal) where
-    owner_is : (m : MirrorId) (w : Pending) (cred : Cred) → IsGrantedWrite journal caller.uid w ⊎ IsCopier t uid caller.uid → IsOwners s caller m cred → caller.uid ≡ (content_of journal m).owner
+    owner_is : (m : MirrorId) (w : Pending) (cred : Cred) → IsUsersWrite journal caller.uid w ⊎ IsCopier t uid caller.uid → IsOwners s caller m cred → caller.uid ≡ (content_of journal m).owner
     owner_is m w cred whose k =
         elim k.owner [
           | inl zero ↦ absurd (not_root caller.uid w whose zero)
@@ -142,13 +142,13 @@ module _ (t : Story) (uid : ℕ) (journal : List Entry) (wrote : AllByRecursion 
     committed_each before id false = tt
     committed_each before id true = (tt, tt)
 
-    written_each : (at index : ℕ) (synced : Bool) (bytes : List ℕ) → IsGrantedWrite journal caller.uid (the_write at bytes) ⊎ IsCopier t uid caller.uid
+    written_each : (at index : ℕ) (synced : Bool) (bytes : List ℕ) → IsUsersWrite journal caller.uid (the_write at bytes) ⊎ IsCopier t uid caller.uid
         → AllByRecursion (IsByOwner s caller) (applied_entries (mirror_of s index) caller.uid at bytes ++ committed_entries (mirror_of s index) synced)
         → AreEach (IsWrittenSo t uid) journal (applied_entries (mirror_of s index) caller.uid at bytes ++ committed_entries (mirror_of s index) synced)
     written_each at index synced [] whose owners = committed_each journal (mirror_of s index) synced
     written_each at index synced (b ∷ bytes) whose owners = (record { owner = owner_is (mirror_of s index) (the_write at (b ∷ bytes)) (record { 0 = caller.uid }) whose owners.0; whose = whose }, committed_each _ (mirror_of s index) synced)
 
-    write_each : (at : ℕ) (synced : Bool) (bytes : List ℕ) (entries : List Entry) → Made s caller entries at synced bytes → IsGrantedWrite journal caller.uid (the_write at bytes) ⊎ IsCopier t uid caller.uid
+    write_each : (at : ℕ) (synced : Bool) (bytes : List ℕ) (entries : List Entry) → Made s caller entries at synced bytes → IsUsersWrite journal caller.uid (the_write at bytes) ⊎ IsCopier t uid caller.uid
         → AllByRecursion (IsByOwner s caller) entries → AreEach (IsWrittenSo t uid) journal entries
     write_each at synced bytes entries (inl e) whose owners = subst (AreEach (IsWrittenSo t uid) journal) (sym e) tt
     write_each at synced bytes entries (inr k) whose owners =

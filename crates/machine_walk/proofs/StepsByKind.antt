@@ -45,7 +45,7 @@ use Rattle.cluster_laws.proofs.Lists.{all_append}
 use Rattle.cluster_laws.proofs.Lives.{ids_seen}
 use Rattle.cluster_laws.proofs.Invariant.{Net, IsNotSource, is_idle, IsBusyWith, IsFile}
 use Rattle.cluster_laws.proofs.PeriodCopies.{Tells, reply_step, timeout_step}
-use Rattle.copied_bytes.proofs.StepKinds.{lost_by, BeginsWithLoss, IsAlike, IsLeaving, OneLeft, OneTold, IsTakenWith, NoWrite, OneWrite, copy_turned, IsSettledBy, StepKind, Rests, Learnt, Recalled, Grants, Ends, Resilvers, MakingTurns, MakingDone, FenceTurns, FenceLoses, FenceDone, SettleTurns, SettleLoses, SettleFrees, CopyBegins, CopyTurns, CopyLoses, TargetLost, CopyFrees, CopySwaps}
+use Rattle.machine_walk.proofs.StepKinds.{lost_by, BeginsWithLoss, IsAlike, IsLeaving, OneLeft, OneTold, IsTakenWith, NoWrite, OneWrite, copy_turned, IsSettledBy, StepKind, Rests, Learnt, Recalled, Grants, Ends, Resilvers, MakingTurns, MakingDone, FenceTurns, FenceLoses, FenceDone, SettleTurns, SettleLoses, SettleFrees, CopyBegins, CopyTurns, CopyLoses, TargetLost, CopyFrees, CopySwaps}
 
 alike_seen : (s : LayoutState) (id : MirrorId) (seen : Tick) → IsAlike s (with_live s (seen_at id seen s.live))
 alike_seen s id seen = record { wanted = refl; cred = refl; phase = refl; ids = ids_seen id seen s.live }

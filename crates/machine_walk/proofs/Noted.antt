@@ -11,7 +11,7 @@ use Rattle.cluster_laws.specs.Agreement.{a_write, sent_in, strayed_in, sent_of, 
 use Rattle.cluster_laws.specs.Holders.{IsIn}
 use Rattle.cluster_laws.proofs.Lists.{all_more}
 use Rattle.cluster_laws.proofs.Invariant.{If}
-use Rattle.copied_bytes.proofs.Writers.{writer_in, IsSilent}
+use Rattle.machine_walk.proofs.Writers.{writer_in, IsSilent}
 
 -- ---- lists
 

@@ -7,7 +7,7 @@ use Rattle.file_rule.specs.MdsFiles.{MdsFile}
 use Rattle.file_rule.specs.FilePhases.{CallOut}
 use Rattle.cluster_laws.specs.Machine.{numbered_at}
 use Rattle.cluster_laws.proofs.Lists.{put_same, put_other, same_numbered}
-use Rattle.copied_bytes.proofs.Stories.{AreEach}
+use Rattle.machine_walk.proofs.Stories.{AreEach}
 
 pub files_set : (F : ℕ → MdsFile → Type 0) (files : List MdsFile) (n : ℕ) (f g : MdsFile) → numbered_at files n ≡ Some f → F n g → ((k : ℕ) (x : MdsFile) → k ≢ n → numbered_at files k ≡ Some x → F k x)
     → (k : ℕ) (x : MdsFile) → numbered_at (set files (n - 1) g) k ≡ Some x → F k x

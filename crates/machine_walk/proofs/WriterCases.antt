@@ -20,16 +20,16 @@ use Rattle.cluster_laws.proofs.Invariant.{If, net_of}
 use Rattle.cluster_laws.proofs.PeriodFacts.{granted_in, none_granted, granted_append}
 use Rattle.cluster_laws.proofs.NewFiles.{pushed}
 use Rattle.cluster_laws.proofs.CallsOut.{mds_call}
-use Rattle.copied_bytes.proofs.Stories.{Story, drawn_story, IsOnward, onward_same, onward_drawn, AreEach, IsMoment}
-use Rattle.copied_bytes.proofs.MoveCases.{after_step, after_call, created_machine, IsStepBy, Cases}
-use Rattle.copied_bytes.proofs.StepKinds.{StepKind}
-use Rattle.copied_bytes.proofs.StepsByKind.{phase_kind}
-use Rattle.copied_bytes.proofs.Placed.{files_set, each_anywhere, its_call}
-use Rattle.copied_bytes.proofs.Writers.{IsPlainUid, IsCopier, HasUids, uids_on, writer_in, grant_or, uids_kind}
-use Rattle.copied_bytes.proofs.Noted.{granted_on, IsByUser, users_on}
-use Rattle.copied_bytes.proofs.WriterFacts.{IsWriteCall, IsKnownPacket, KnowsWriters, IsWrittenSo, written_on, packets_on, held_on, ungranted}
-use Rattle.copied_bytes.proofs.WriterSteps.{drew_on, drew_new, AreKnown, step_known, held_known, out_known}
-use Rattle.copied_bytes.proofs.WriterServes.{IsOfServerOnly, server_only, call_each}
+use Rattle.machine_walk.proofs.Stories.{Story, drawn_story, IsOnward, onward_same, onward_drawn, AreEach, IsMoment}
+use Rattle.machine_walk.proofs.MoveCases.{after_step, after_call, created_machine, IsStepBy, Cases}
+use Rattle.machine_walk.proofs.StepKinds.{StepKind}
+use Rattle.machine_walk.proofs.StepsByKind.{phase_kind}
+use Rattle.machine_walk.proofs.Placed.{files_set, each_anywhere, its_call}
+use Rattle.machine_walk.proofs.Writers.{IsPlainUid, IsCopier, HasUids, uids_on, writer_in, grant_or, uids_kind}
+use Rattle.machine_walk.proofs.Noted.{granted_on, IsByUser, users_on}
+use Rattle.machine_walk.proofs.WriterFacts.{IsWriteCall, IsKnownPacket, KnowsWriters, IsWrittenSo, written_on, packets_on, held_on, ungranted}
+use Rattle.machine_walk.proofs.WriterSteps.{drew_on, drew_new, AreKnown, step_known, held_known, out_known}
+use Rattle.machine_walk.proofs.WriterServes.{IsOfServerOnly, server_only, call_each}
 
 -- ---- uids that were granted are below what is to be drawn
 
@@ -255,6 +255,6 @@ module _ (calls : (s : ServerState) (caller : Caller) (call : DsCallValue) → I
         packed t m journal at p m.servers _ (m.packets ++ Call node n xid uid gid call ∷ []) m.next_name (all_append (IsKnownPacket t m.next_uid journal) m.packets (Call node n xid uid gid call ∷ []) p.packets (used_call t m journal at p uid call bound, tt));
     takes = λ t m journal at p file uid pos bytes bound. (noted_writers t m journal at p (entry.Sent file (a_uid uid) pos bytes) refl (held_uid t m journal at p uid _ bound), (tt, tt));
     strays = λ t m journal at p file uid pos bytes bound. (noted_writers t m journal at p (entry.Rogue file (a_uid uid) pos bytes) refl (held_uid t m journal at p uid _ bound), (tt, tt));
-    tells = λ t m journal at p file uid pos bytes. (noted_writers t m journal at p (entry.Told file (a_uid uid) pos bytes) refl tt, (tt, tt));
+    tells = λ t m journal at p file uid pos bytes bound. (noted_writers t m journal at p (entry.Told file (a_uid uid) pos bytes) refl tt, (tt, tt));
     creates = λ t m journal at p servers may h. created_writers t m journal at p servers;
   }

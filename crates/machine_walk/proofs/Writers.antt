@@ -23,8 +23,8 @@ use Rattle.cluster_laws.proofs.PeriodCopies.{reply_step, timeout_step}
 use Rattle.cluster_laws.proofs.Invariant.{IsNotSource}
 use Rattle.cluster_laws.proofs.PeriodFacts.{granted_in}
 use Rattle.cluster_laws.proofs.PeriodStates.{IsMine}
-use Rattle.copied_bytes.proofs.Stories.{Story, begun_copy, IsOnward}
-use Rattle.copied_bytes.proofs.StepKinds.{copy_turned, IsAlike, IsLeaving, OneLeft, OneTold, IsTakenWith, StepKind, Rests, Learnt, Recalled, Grants, Ends, Resilvers, MakingTurns, MakingDone, FenceTurns, FenceLoses, FenceDone, SettleTurns, SettleLoses, SettleFrees, CopyBegins, CopyTurns, CopyLoses, TargetLost, CopyFrees, CopySwaps}
+use Rattle.machine_walk.proofs.Stories.{Story, begun_copy, IsOnward}
+use Rattle.machine_walk.proofs.StepKinds.{copy_turned, IsAlike, IsLeaving, OneLeft, OneTold, IsTakenWith, StepKind, Rests, Learnt, Recalled, Grants, Ends, Resilvers, MakingTurns, MakingDone, FenceTurns, FenceLoses, FenceDone, SettleTurns, SettleLoses, SettleFrees, CopyBegins, CopyTurns, CopyLoses, TargetLost, CopyFrees, CopySwaps}
 
 -- ---- uids
 

@@ -1,20 +1,24 @@
 -- In a bound run each write is applied under the uid that its mirror belongs to, by a user that was granted a file or by a copy.
-use Rattle.std.proofs.Common.{◌≡◌, ℕ, ◌-◌, List, [], Some, None, refl}
+use Rattle.std.proofs.Common.{◌≡◌, ℕ, ◌-◌, ◌⊎◌, false, List, [], Some, None, refl, subst, inl, inr}
 use Rattle.std.specs.Prelude.{slice_get}
 use Rattle.cluster_model.specs.declared.piece.Piece.{Piece}
+use Rattle.cluster_model.specs.declared.entry.Entry.TheVariants as entry
 use Rattle.cluster_model.specs.Server.{ServerState, Caller, new_server, restart_of}
 use Rattle.cluster_model.specs.DsCalls.{DsCallValue, ds_step}
 use Rattle.cluster_model.specs.GuardLaws.{IsInOrder, IsTold, CallLaws, RestartLaws}
 use Rattle.file_rule.specs.MdsFiles.{MdsFile}
-use Rattle.cluster_laws.specs.Machine.{Machine, Move, numbered_at, new_machine}
+use Rattle.cluster_laws.specs.Machine.{Machine, Move, numbered_at, journal_of, machine_after, new_machine}
 use Rattle.cluster_laws.specs.FenceLaw.{new_servers}
-use Rattle.cluster_laws.specs.Holders.{AreBound}
+use Rattle.cluster_laws.specs.Holders.{the_write, AreBound}
+use Rattle.cluster_laws.specs.Periods.{was_granted}
+use Rattle.machine_walk.specs.Owners.{IsUsersWrite, AppliesByOwners}
 use Rattle.cluster_laws.proofs.Lists.{place_of}
 use Rattle.cluster_laws.proofs.Runs.{none_drawn, start_holds, start_periods}
-use Rattle.sound_runs.proofs.Stories.{Story, IsMoment}
-use Rattle.sound_runs.proofs.MoveRuns.{RunDone, run_done}
-use Rattle.sound_runs.proofs.WriterFacts.{KnowsWriters, IsWrittenSo}
-use Rattle.sound_runs.proofs.WriterCases.{writer_cases}
+use Rattle.machine_walk.proofs.Stories.{Story, AreEach, each_at, IsMoment}
+use Rattle.machine_walk.proofs.MoveRuns.{RunDone, run_done}
+use Rattle.machine_walk.proofs.Writers.{IsCopier}
+use Rattle.machine_walk.proofs.WriterFacts.{KnowsWriters, IsAppliedSo, IsWrittenSo}
+use Rattle.machine_walk.proofs.WriterCases.{writer_cases}
 
 -- nothing was drawn
 abbrev pub first_story : Story
@@ -48,3 +52,14 @@ module _ (new : (number boot : ℕ) → IsInOrder (new_server number boot) × Is
 
   pub writers_run : (moves : List Move) → AreBound boots moves → RunDone KnowsWriters IsWrittenSo (writer_cases calls) calls restarts first_story first [] moves
   writers_run moves bound = run_done KnowsWriters IsWrittenSo (writer_cases calls) calls restarts moves first_story first [] first_moment first_writers bound
+
+  pub applied_by_owners : (moves : List Move) → AreBound boots moves → AppliesByOwners (journal_of first moves)
+  applied_by_owners moves bound before behind m cred pos bytes is =
+      let run = writers_run moves bound in
+      let so : IsAppliedSo run.last (machine_after first moves).next_uid before m cred.0 (the_write pos bytes) =
+      each_at (IsWrittenSo run.last (machine_after first moves).next_uid) [] before (entry.Applied m cred pos bytes) behind (subst (AreEach (IsWrittenSo run.last (machine_after first moves).next_uid) []) is run.each) in
+      record { owner = so.owner; whose = whose run.last (machine_after first moves).next_uid (run.kept.copiers cred.0) so.whose }
+    where
+      whose : (t : Story) (uid : ℕ) → (IsCopier t uid cred.0 → was_granted (journal_of first moves) cred.0 ≡ false) → IsUsersWrite before cred.0 (the_write pos bytes) ⊎ IsCopier t uid cred.0 → IsUsersWrite before cred.0 (the_write pos bytes) ⊎ (was_granted (journal_of first moves) cred.0 ≡ false)
+      whose t uid never (inl k) = inl k
+      whose t uid never (inr k) = inr (never k)

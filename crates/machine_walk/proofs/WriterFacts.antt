@@ -12,13 +12,13 @@ use Rattle.cluster_laws.specs.Machine.{PacketValue, Call, Reply, Machine, Holdin
 use Rattle.cluster_laws.specs.Periods.{was_granted}
 use Rattle.cluster_laws.specs.Agreement.{sent_of, rogue_of}
 use Rattle.cluster_laws.specs.Holders.{IsIn, the_write}
-use Rattle.copied_bytes.specs.CopiedBytes.{IsUsersWrite}
+use Rattle.machine_walk.specs.Owners.{IsUsersWrite}
 use Rattle.cluster_laws.proofs.Lists.{all_more}
 use Rattle.cluster_laws.proofs.Invariant.{If}
 use Rattle.cluster_laws.proofs.PeriodFacts.{granted_in, none_granted, granted_append}
-use Rattle.copied_bytes.proofs.Stories.{Story, IsOnward}
-use Rattle.copied_bytes.proofs.Writers.{IsCopier, copier_on, HasUids}
-use Rattle.copied_bytes.proofs.Noted.{noted_on, granted_on, IsByUser}
+use Rattle.machine_walk.proofs.Stories.{Story, IsOnward}
+use Rattle.machine_walk.proofs.Writers.{IsCopier, copier_on, HasUids}
+use Rattle.machine_walk.proofs.Noted.{noted_on, granted_on, IsByUser}
 
 -- a WRITE of a copy: it is stable at once
 pub record IsCopysCall (t : Story) (uid user : ℕ) (synced : Bool) : Type 0 where

@@ -1,0 +1,13 @@
+pub mod Stories
+pub mod MoveCases
+pub mod MoveRuns
+pub mod StepKinds
+pub mod StepsByKind
+pub mod Placed
+pub mod Writers
+pub mod Noted
+pub mod WriterFacts
+pub mod WriterSteps
+pub mod WriterServes
+pub mod WriterCases
+pub mod WriterRuns
