@@ -1,6 +1,5 @@
 mod Places
 mod MarkSteps
-mod PhaseEntries
 mod ServerSteps
 mod Standing
 mod Arrivals

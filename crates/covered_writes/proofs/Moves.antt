@@ -1,5 +1,5 @@
 -- Every move keeps what the packets show, and so does a run.
-use Rattle.std.proofs.Common.{◌≡◌, ℕ, zero, suc, ◌+◌, ◌-◌, ◌<◌, List, [], ◌∷◌, ◌++◌, length, Option, Some, None, refl, sym, ap, subst, ◌∙◌, arith, append_assoc, append-nil}
+use Rattle.std.proofs.Common.{true, ◌≡◌, ℕ, zero, suc, ◌+◌, ◌-◌, ◌<◌, List, [], ◌∷◌, ◌++◌, length, Option, Some, None, refl, sym, ap, subst, ◌∙◌, arith, append_assoc, append-nil}
 use Rattle.std.specs.Prelude.{slice_get, ◌&&◌, ◌==◌}
 use Rattle.std.proofs.lemmas.Bool.{cond_both}
 use Rattle.std.proofs.lemmas.Option.{same_Some}
@@ -11,6 +11,7 @@ use Rattle.cluster_model.specs.declared.ids.MirrorId.{MirrorId}
 use Rattle.cluster_model.specs.declared.entry.Entry.{Entry}
 use Rattle.cluster_model.specs.Content.{Pending}
 use Rattle.cluster_model.specs.Server.{ServerState, new_server, restart_of}
+use Rattle.cluster_model.specs.declared.entry.Entry.TheVariants as entry
 use Rattle.cluster_model.specs.DsCalls.{DsCallValue, DsReplyValue}
 use Rattle.file_rule.specs.MdsFiles.{MdsFile, FileStep}
 use Rattle.file_rule.specs.FilePhases.{FileInput, Answers, TimesOut, Sees, CallOut, phase, call_out, is_outstanding}
@@ -20,10 +21,16 @@ use Rattle.cluster_laws.specs.Holders.{IsPacketAt, IsCovered, IsIn}
 use Rattle.sound_journals.specs.Marks.{marks_of}
 use Rattle.covered_writes.specs.CoveredWrites.{AreAnswered, AreWritesCalled}
 use Rattle.cluster_laws.proofs.Lists.{place_of}
-use Rattle.covered_writes.proofs.PhaseEntries.{AreOfFiles, phase_of_files}
+use Rattle.machine_walk.proofs.PhaseEntries.{IsPhaseEntry, phase_all}
 use Rattle.covered_writes.proofs.ServerSteps.{next_boot}
-use Rattle.covered_writes.proofs.Standing.{IsWritten, IsCommitted, Covers, covers_files, covers_sent}
+use Rattle.covered_writes.proofs.Standing.{is_of_file, AreOfFiles, IsWritten, IsCommitted, Covers, covers_files, covers_sent}
 use Rattle.covered_writes.proofs.Arrivals.{covers_restarted, covers_served}
+
+-- what an input of a file enters
+of_file : (input : FileInput) (e : Entry) → IsPhaseEntry input e → is_of_file e ≡ true
+of_file input (entry.Applied mirror cred at bytes) its = absurd its
+of_file input (entry.Restarted server pieces) its = absurd its
+of_file input _ its = refl
 
 module _ (m : Machine) (journal : List Entry) (c : Covers m.servers m.packets journal) where
   abbrev Ok : MachineStep → Type 0
@@ -47,7 +54,7 @@ module _ (m : Machine) (journal : List Entry) (c : Covers m.servers m.packets jo
   takes n input None = none
   takes n input (Some f) =
       let s : FileStep = phase (file_id n) f input (fresh_of m) in
-      cond_both (can_draw m s.uids s.names) _ (no_move m) Ok (λ e. only s.entries (phase_of_files (file_id n) (fresh_of m) f input)) (λ e. none)
+      cond_both (can_draw m s.uids s.names) _ (no_move m) Ok (λ e. only s.entries (phase_all (λ e. is_of_file e ≡ true) (file_id n) (fresh_of m) f input (of_file input))) (λ e. none)
 
   answers : (xid : ℕ) (reply : DsReplyValue) (place : Option ℕ) → Ok (answers_at m xid reply place)
   answers xid reply None = none

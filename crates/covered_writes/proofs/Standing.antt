@@ -1,5 +1,5 @@
 -- What the packets of a run show of its data servers and its journal: the invariant, and what a longer run leaves of it.
-use Rattle.std.proofs.Common.{◌≡◌, ℕ, ◌<◌, ◌≤◌, Bool, true, List, [], ◌∷◌, ◌++◌, length, Option, Some, arith, inl, inr}
+use Rattle.std.proofs.Common.{false, ◌≡◌, ℕ, ◌<◌, ◌≤◌, Bool, true, List, [], ◌∷◌, ◌++◌, length, Option, Some, arith, inl, inr}
 use Rattle.std.specs.List.{AllByRecursion}
 use Rattle.std.proofs.lemmas.Option.{slice_get_within}
 use Rattle.cluster_model.specs.declared.ids.NodeId.{NodeId}
@@ -16,7 +16,6 @@ use Rattle.covered_writes.specs.CoveredWrites.{HasItsCall, AreAnswered, IsWriteC
 use Rattle.cluster_laws.proofs.Lists.{all_append, all_more, push_old}
 use Rattle.covered_writes.proofs.Places.{pushed_at}
 use Rattle.covered_writes.proofs.MarkSteps.{IsNotRestartOf, covered_more, here_more, mirror_at}
-use Rattle.covered_writes.proofs.PhaseEntries.{is_of_file, AreOfFiles}
 
 -- a WRITE of some bytes whose answer stands at this place
 pub record IsWritten (packets : List PacketValue) (at n verifier uid fileid : ℕ) (w : Pending) : Type 0 where
@@ -116,6 +115,15 @@ pub here_on : (servers : List ServerState) (journal entries : List Entry) (n ver
 here_on servers journal entries n verifier uid fileid w runs h = record { server = h.server; there = h.there; up = h.up; here = λ same. here_more journal entries uid (mirror_at n fileid) runs w (h.here same) }
 
 -- ---- entries of files, and nothing else
+
+-- an entry that is of no write at a mirror, and of no restart
+abbrev pub is_of_file : Entry → Bool
+is_of_file (entry.Applied mirror cred at bytes) = false
+is_of_file (entry.Restarted server pieces) = false
+is_of_file _ = true
+
+abbrev pub AreOfFiles : List Entry → Type 0
+AreOfFiles entries = AllByRecursion (λ (e : Entry). is_of_file e ≡ true) entries
 
 file_called : (packets : List PacketValue) (e : Entry) → is_of_file e ≡ true → IsWriteCalled packets e
 file_called packets (entry.Applied mirror cred at bytes) is = absurd cc

@@ -1,3 +1,4 @@
+pub mod PhaseEntries
 pub mod Stories
 pub mod MoveCases
 pub mod MoveRuns

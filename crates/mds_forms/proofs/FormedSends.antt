@@ -24,7 +24,12 @@ use Rattle.mds_walk.proofs.Keeping.{hears_any}
 use Rattle.mds_laws.proofs.Numbers.{WereSent, sent_more, sent_with, sent_kept}
 use Rattle.mds_laws.proofs.GoesWalk.{event_walk}
 use Rattle.mds_forms.specs.Forms.{IsNoPacket, IsInForm, MdsStaysInForm}
-use Rattle.mds_forms.proofs.PhaseEntries.{phase_none}
+use Rattle.machine_walk.proofs.PhaseEntries.{IsPhaseEntry, phase_all}
+
+-- what an input of a file enters
+no_packet : (input : FileInput) (e : Entry) → IsPhaseEntry input e → IsNoPacket e
+no_packet input (Packet number from to bytes) its = absurd its
+no_packet input _ its = tt
 
 pub all_join : {A : Type 0} (P : A → Type 0) (a b : List A) → AllByRecursion P a → AllByRecursion P b → AllByRecursion P (a ++ b)
 all_join P [] b first second = second
@@ -64,7 +69,7 @@ inputs : (m : MdsValue) (file : FileId) (s : ServedFile) (input : FileInput) (es
 inputs m file s input es ss i =
     let n : MdsValue = with_served (record m { fresh = drawn m.fresh (phase file s.file input m.fresh) }) file (file_behind s (phase file s.file input m.fresh)) in
     let more : Formed m.next_xid m.calls (es ++ (phase file s.file input m.fresh).entries) ss =
-    record { none = all_join IsNoPacket es (phase file s.file input m.fresh).entries i.none (phase_none file m.fresh s.file input); fits = i.fits; were = i.were; forms = i.forms } in
+    record { none = all_join IsNoPacket es (phase file s.file input m.fresh).entries i.none (phase_all IsNoPacket file m.fresh s.file input (no_packet input)); fits = i.fits; were = i.were; forms = i.forms } in
     cond_both (list_any is_period_end (phase file s.file input m.fresh).entries) (record n { recalls = without_file file n.recalls }) n
     (λ (x : MdsValue). Formed x.next_xid x.calls (es ++ (phase file s.file input m.fresh).entries) ss) (λ end. more) (λ other. more)
 

@@ -1,2 +1,1 @@
-pub mod PhaseEntries
 pub mod FormedSends

@@ -1,6 +1,5 @@
 pub mod WeaveLemmas
 pub mod MdsKinds
-pub mod PhaseEntries
 pub mod MdsEntries
 pub mod ServerEntries
 pub mod ClientSteps

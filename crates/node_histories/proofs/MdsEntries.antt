@@ -22,7 +22,19 @@ use Rattle.mds_laws.proofs.Numbers.{WereSent, sent_more, sent_with, sent_kept}
 use Rattle.mds_laws.proofs.GoesWalk.{event_walk}
 use Rattle.node_histories.proofs.Parts.{all_joined}
 use Rattle.node_histories.proofs.MdsKinds.{IsMdsEntry}
-use Rattle.node_histories.proofs.PhaseEntries.{phase_kinds}
+use Rattle.machine_walk.proofs.PhaseEntries.{IsPhaseEntry, phase_all}
+
+-- what an input of a file enters
+of_phase : (input : FileInput) (e : Entry) → IsPhaseEntry input e → IsMdsEntry e
+of_phase input (entry.Granted file cred holder) its = tt
+of_phase input (entry.Sent file cred at bytes) its = tt
+of_phase input (entry.Told file cred at bytes) its = tt
+of_phase input (entry.Ended file cred cause) its = tt
+of_phase input (entry.Left file mirror cause) its = tt
+of_phase input (entry.Swapped file old new) its = tt
+of_phase input (entry.Fenced file old new live) its = tt
+of_phase input (entry.Free file live) its = tt
+of_phase input _ its = absurd its
 
 -- by the parts of the server that it is about
 record Kinds (calls : List AwaitedCall) (es : List Entry) (ss : List MdsSend) : Type 0 where
@@ -43,7 +55,7 @@ inputs : (m : MdsValue) (file : FileId) (s : ServedFile) (input : FileInput) (es
 inputs m file s input es ss i =
     let n : MdsValue = with_served (record m { fresh = drawn m.fresh (phase file s.file input m.fresh) }) file (file_behind s (phase file s.file input m.fresh)) in
     let more : Kinds m.calls (es ++ (phase file s.file input m.fresh).entries) ss =
-    record { kinds = all_joined IsMdsEntry es (phase file s.file input m.fresh).entries i.kinds (phase_kinds file m.fresh s.file input); were = i.were } in
+    record { kinds = all_joined IsMdsEntry es (phase file s.file input m.fresh).entries i.kinds (phase_all IsMdsEntry file m.fresh s.file input (of_phase input)); were = i.were } in
     cond_both (list_any is_period_end (phase file s.file input m.fresh).entries) (record n { recalls = without_file file n.recalls }) n
     (λ (x : MdsValue). Kinds x.calls (es ++ (phase file s.file input m.fresh).entries) ss) (λ end. more) (λ other. more)
 
