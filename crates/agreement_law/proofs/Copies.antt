@@ -12,7 +12,7 @@ use Rattle.copied_bytes.specs.CopiedBytes as copied
 use Rattle.sound_journals.specs.Views.{FileView, periods_after, view_after, view_by, view_of, no_view}
 use Rattle.sound_journals.specs.Sound.{AllLive, EndsPeriod}
 use Rattle.sound_journals.proofs.Folds.{causes_are}
-use Rattle.machine_walk.specs.Owners.{IsUsersWrite}
+use Rattle.machine_walk.specs.Owners.{IsUsersWrite, IsAppliedByOwner, AppliesByOwners}
 use Rattle.sound_runs.specs.BoundJournals.{IsQuietWrite, IsAppliedInPlace, AreCopiesSound}
 
 all_live : (o : Option (List MirrorId)) (P : MirrorId → Type 0) → ((live : List MirrorId) → o ≡ Some live → AllByRecursion P live) → AllLive o P
@@ -37,12 +37,12 @@ ended before f uid end = record {
   dirty = end.is_so;
 }
 
-module _ (journal : List Entry) (applied : copied.AppliesByOwners journal) (late : copied.CopiesLeaveAsShown journal) (swapped : copied.SwapsInAlike journal) (freed : copied.FreesAlike journal) where
-  placed : (before behind : List Entry) (m : MirrorId) (cred : Cred) (w : Pending) → copied.IsAppliedByOwner journal before m cred w → (was_granted journal cred.0 ≡ false → copied.LeavesAsShown before m w) → IsAppliedInPlace journal before m cred.0 w
+module _ (journal : List Entry) (applied : AppliesByOwners journal) (late : copied.CopiesLeaveAsShown journal) (swapped : copied.SwapsInAlike journal) (freed : copied.FreesAlike journal) where
+  placed : (before behind : List Entry) (m : MirrorId) (cred : Cred) (w : Pending) → IsAppliedByOwner journal before m cred w → (was_granted journal cred.0 ≡ false → copied.LeavesAsShown before m w) → IsAppliedInPlace journal before m cred.0 w
   placed before behind m cred w a quiet = record { owner = a.owner; whose = whose a.whose }
     where
-      whose : copied.IsUsersWrite before cred.0 w ⊎ (was_granted journal cred.0 ≡ false) → IsUsersWrite before cred.0 w ⊎ IsQuietWrite journal before m cred.0 w
-      whose (inl users) = inl (record { noted = users.noted; granted = users.granted })
+      whose : IsUsersWrite before cred.0 w ⊎ (was_granted journal cred.0 ≡ false) → IsUsersWrite before cred.0 w ⊎ IsQuietWrite journal before m cred.0 w
+      whose (inl users) = inl users
       whose (inr never) = inr (record { never = never; same = λ f. all_live _ _ (quiet never f) })
 
   pub copies_sound : AreCopiesSound journal

@@ -1,5 +1,5 @@
--- What one input of the table of phases makes of the uid that the next grant of the file has: a grant uses it up, and the file has
--- another only where one was drawn.
+-- What one input of the table of phases makes of the uid that the next grant of the file has, and of the one that its next period's end has:
+-- a grant, or an end, uses it up, and the file has another only where one was drawn.
 use Rattle.std.proofs.Common.{◌≡◌, ℕ, ◌+◌, Bool, true, false, cond, List, [], ◌∷◌, ◌++◌, length, Option, Some, None, refl, sym, ap, subst, ◌∙◌, arith}
 use Rattle.std.specs.Prelude.{◌==◌, ◌&&◌, nat_lt, slice_get, map, is_some, if◌then◌else◌}
 use Rattle.std.specs.List.{list_all}
@@ -40,16 +40,16 @@ use Rattle.file_rule.specs.declared.creation.Creation.{Creation}
 use Rattle.file_rule.specs.declared.fresh.Fresh.{Fresh}
 use Rattle.file_rule.specs.MdsFiles.{Creations, Activity, Idle, Makes, Fences, Settles, Copies, MdsFile, FileStep, nothing, stays, a_uid, goes_idle, goes_fencing, goes_on, with_entries, fenced_on, fence_stepped, shown_by_set, seen_by, mirror_at, with_creation, creation_of, creation_answered, creation_timed_out, all_made, making_on, making_at, making_by, plan_of, copying, settled, source_left, shown_by_commit, seen_at_source, settling_answered, settling_timed_out, copied_by, copied_on, target_left, copy_stepped}
 use Rattle.file_rule.specs.FilePhases.{FileInput, AsksLayout, OwnWrite, Recall, Returns, Revokes, OwnEnds, Resilver, Answers, TimesOut, Ticks, Sees, are_spent, asked_in, held_in, by_client, by_mds, recalled_row, returned_row, revoked_row, own_row, resilvered_in, kind_of, settles_by, answered_in, timed_out_in, phase, CallOut, creation_waiting, create_out_at, create_out, fence_out, settle_out, copy_out, call_out_of, call_out}
-use Rattle.mds_laws.proofs.NextUids.{next_by, next_uid, is_making, Agrees, making_next, kind_next, idle_agrees, begun_agrees, ticked_agrees, loss_next, loss_kind, Keeps, Draws, Uses, is_grant, AreSilent, silent_only, silent_join, left_silent, swapped_silent}
+use Rattle.mds_laws.proofs.PeriodUids.{Side, Grants, Ends, held_uid, uid_by, uid_of, is_making, Agrees, making_uid, kind_uid, idle_agrees, begun_agrees, ticked_agrees, loss_uid, loss_kind, Keeps, Draws, Uses, end_use, is_use, AreSilent, silent_only, silent_then, silent_join, left_silent, swapped_silent}
 
 -- ---- the rows
 
-module _ (file : FileId) (fresh : Fresh) (old : Option ℕ) where
+module _ (side : Side) (file : FileId) (fresh : Fresh) (old : Option ℕ) where
   abbrev StepUses : FileStep → Type 0
-  StepUses x = Uses fresh.uid (fresh.uid + x.uids) old x.entries (next_uid x.file.layout) × Agrees x.file.activity x.file.layout.phase
+  StepUses x = Uses side fresh.uid (fresh.uid + x.uids) old x.entries (uid_of side x.file.layout) × Agrees x.file.activity x.file.layout.phase
 
   abbrev Has : LayoutState → Type 0
-  Has s = next_uid s ≡ old
+  Has s = uid_of side s ≡ old
 
   -- an input of which nothing comes
   abbrev None_of : MdsFile → Type 0
@@ -63,9 +63,13 @@ module _ (file : FileId) (fresh : Fresh) (old : Option ℕ) where
       (with_entries (granted file f.layout holder).entries (record { file = record { layout = (granted file f.layout holder).file; activity = f.activity }; entries = entries; uids = 0; names = 0 })) StepUses
       (λ is. (Keeps i, its))
       (λ off. (
-        (sym i ∙ ap (next_by f.layout.cred) at, silent_only fresh.uid (fresh.uid + 0) None None entries silent (Keeps refl)),
+        by_side side (sym i ∙ ap (uid_by side f.layout.cred) at),
         idle_agrees f.activity Free (Held holder false) refl refl (subst (Agrees f.activity) at its),
       ))
+    where
+      by_side : (k : Side) → old ≡ Some f.layout.cred.0 → Uses k fresh.uid (fresh.uid + 0) old (entry.Granted file f.layout.cred holder ∷ entries) (held_uid k f.layout.cred)
+      by_side Grants its = (its, silent_only Grants fresh.uid (fresh.uid + 0) None None entries silent (Keeps refl))
+      by_side Ends its = (tt, silent_only Ends fresh.uid (fresh.uid + 0) old (Some f.layout.cred.0) entries silent (Keeps (sym its)))
   asked_uses f holder entries (Held other recalled) at silent i its = (Keeps i, its)
   asked_uses f holder entries (Fencing next end) at silent i its = (Keeps i, its)
   asked_uses f holder entries (Settling copies) at silent i its = (Keeps i, its)
@@ -92,26 +96,26 @@ module _ (file : FileId) (fresh : Fresh) (old : Option ℕ) where
 
   recalled_uses : (f : MdsFile) (holder : NodeId) (was : Bool) → f.layout.phase ≡ Held holder was → Has f.layout → Agrees f.activity f.layout.phase → (n : ℕ) → StepUses (recalled_row f n)
   recalled_uses f holder was at i its n =
-      (Keeps (sym (ap (next_by f.layout.cred) at) ∙ i), idle_agrees f.activity (Held holder was) (Held (Client n) true) refl refl (subst (Agrees f.activity) at its))
+      (Keeps (sym (ap (uid_by side f.layout.cred) at) ∙ i), idle_agrees f.activity (Held holder was) (Held (Client n) true) refl refl (subst (Agrees f.activity) at its))
 
-  end_uses : (s : LayoutState) (left : List Entry) (cause : EndCause) (live : List Mirror) → AreSilent left
-      → Uses fresh.uid (fresh.uid + 1) old (end_entries file s.cred left cause live) (next_uid (left_with s (a_uid fresh.uid) live))
-  end_uses s left cause [] silent = (tt, Draws refl (omega arith))
-  end_uses s left cause (m ∷ live) silent =
-      silent_only fresh.uid (fresh.uid + 1) old (Some fresh.uid) (left ++ entry.Ended file s.cred cause ∷ []) (silent_join left (entry.Ended file s.cred cause ∷ []) silent (refl, tt)) (Draws refl (omega arith))
+  end_uses : (s : LayoutState) (left : List Entry) (cause : EndCause) (live : List Mirror) → old ≡ held_uid side s.cred → AreSilent left
+      → Uses side fresh.uid (fresh.uid + 1) old (end_entries file s.cred left cause live) (uid_of side (left_with s (a_uid fresh.uid) live))
+  end_uses s left cause [] its silent = (end_use side s.cred old its, Draws refl (omega arith))
+  end_uses s left cause (m ∷ live) its silent =
+      silent_then side fresh.uid (fresh.uid + 1) old (Some fresh.uid) left (entry.Ended file s.cred cause ∷ []) silent (end_use side s.cred old its, Draws refl (omega arith))
 
-  returned_uses : (f : MdsFile) (client : ℕ) (claimed : Cred) (places : List Bool) (holder : ℕ) → None_of f → StepUses (returned_row file f client claimed places fresh holder)
-  returned_uses f client claimed places holder i =
+  returned_uses : (f : MdsFile) (client : ℕ) (claimed : Cred) (places : List Bool) (holder : ℕ) → old ≡ held_uid side f.layout.cred → None_of f → StepUses (returned_row file f client claimed places fresh holder)
+  returned_uses f client claimed places holder its i =
       cond_both (holder == client && (f.layout.cred.0 == claimed.0)) (goes_fencing (returned file f.layout places (a_uid fresh.uid)) fresh.uid) (nothing f) StepUses
-      (λ is. (end_uses f.layout (left_entries file (map reported_cause places) f.layout.live) Returned (unreported places f.layout.live) (left_silent file (map reported_cause places) f.layout.live), tt)) (λ off. i)
+      (λ is. (end_uses f.layout (left_entries file (map reported_cause places) f.layout.live) Returned (unreported places f.layout.live) its (left_silent file (map reported_cause places) f.layout.live), tt)) (λ off. i)
 
-  revoked_uses : (f : MdsFile) (cause : EndCause) → None_of f → StepUses (revoked_row file f cause fresh)
-  revoked_uses f cause i =
-      cond_both (is_clean cause) (nothing f) (goes_fencing (revoked file f.layout cause (a_uid fresh.uid)) fresh.uid) StepUses (λ is. i) (λ off. ((tt, Draws refl (omega arith)), tt))
+  revoked_uses : (f : MdsFile) (cause : EndCause) → old ≡ held_uid side f.layout.cred → None_of f → StepUses (revoked_row file f cause fresh)
+  revoked_uses f cause its i =
+      cond_both (is_clean cause) (nothing f) (goes_fencing (revoked file f.layout cause (a_uid fresh.uid)) fresh.uid) StepUses (λ is. i) (λ off. ((end_use side f.layout.cred old its, Draws refl (omega arith)), tt))
 
-  own_uses : (f : MdsFile) (causes : List (Option LeftCause)) (told : Entry) → is_grant told ≡ false → StepUses (own_row file f causes told fresh)
-  own_uses f causes told silent = (
-    end_uses f.layout (left_entries file causes f.layout.live ++ told ∷ []) Own (unreported (map is_some causes) f.layout.live)
+  own_uses : (f : MdsFile) (causes : List (Option LeftCause)) (told : Entry) → old ≡ held_uid side f.layout.cred → is_use told ≡ false → StepUses (own_row file f causes told fresh)
+  own_uses f causes told its silent = (
+    end_uses f.layout (left_entries file causes f.layout.live ++ told ∷ []) Own (unreported (map is_some causes) f.layout.live) its
         (silent_join (left_entries file causes f.layout.live) (told ∷ []) (left_silent file causes f.layout.live) (silent, tt)),
     tt,
   )
@@ -120,7 +124,7 @@ module _ (file : FileId) (fresh : Fresh) (old : Option ℕ) where
   resilver_uses f Making at i its = (Keeps i, its)
   resilver_uses f Free at i its =
       cond_both (nat_lt (length f.layout.live) f.layout.wanted && (if are_spent fresh then false else true)) (stays (resilvered f.layout) (Settles Waits)) (nothing f) StepUses
-      (λ is. (Keeps (sym (ap (next_by f.layout.cred) at) ∙ i), tt)) (λ off. (Keeps i, its))
+      (λ is. (Keeps (sym (ap (uid_by side f.layout.cred) at) ∙ i), tt)) (λ off. (Keeps i, its))
   resilver_uses f (Held holder recalled) at i its = (Keeps i, its)
   resilver_uses f (Fencing next end) at i its = (Keeps i, its)
   resilver_uses f (Settling copies) at i its = (Keeps i, its)
@@ -131,7 +135,7 @@ module _ (file : FileId) (fresh : Fresh) (old : Option ℕ) where
   on_uses : (layout : LayoutState) (all : Creations) → Has layout → is_making layout.phase ≡ true → StepUses (making_on file layout all)
   on_uses layout all i its =
       cond_both (list_all (λ (c : Creation). is_over c.stage) all.items) (goes_idle (made file layout (all_made all)) 0) (stays layout (Makes all)) StepUses
-      (λ is. ((tt, Keeps (sym (making_next layout.cred layout.phase its) ∙ i)), tt)) (λ off. (Keeps i, its))
+      (λ is. ((tt, Keeps (sym (making_uid side layout.cred layout.phase its) ∙ i)), tt)) (λ off. (Keeps i, its))
 
   making_at_uses : (layout : LayoutState) (all : Creations) (step : Creation → Creation) (place : ℕ) (o : Option Creation) → Has layout → is_making layout.phase ≡ true → StepUses (making_at file layout all step place o)
   making_at_uses layout all step place None i its = (Keeps i, its)
@@ -144,12 +148,12 @@ module _ (file : FileId) (fresh : Fresh) (old : Option ℕ) where
   -- ---- a mirror that leaves, and a fence
 
   left_has : (s : LayoutState) (id : MirrorId) (cause : LeftCause) → Has s → Has (mirror_left file s id cause).file
-  left_has s id cause i = loss_next s.cred s.phase (is_source id s.live) ∙ i
+  left_has s id cause i = loss_uid side s.cred s.phase (is_source id s.live) ∙ i
 
   left_kind : (s : LayoutState) (id : MirrorId) (cause : LeftCause) → is_some (kind_of s.phase) ≡ true → is_some (kind_of (mirror_left file s id cause).file.phase) ≡ true
   left_kind s id cause is = loss_kind s.phase (is_source id s.live) ∙ is
 
-  fence_done_uses : (s : LayoutState) (p : LayoutPhase) → next_by s.cred p ≡ old → Has s → Uses fresh.uid (fresh.uid + 0) old (fence_entries file s p) (next_uid (fenced_to s p))
+  fence_done_uses : (s : LayoutState) (p : LayoutPhase) → uid_by side s.cred p ≡ old → Has s → Uses side fresh.uid (fresh.uid + 0) old (fence_entries file s p) (uid_of side (fenced_to s p))
   fence_done_uses s Making at i = Keeps i
   fence_done_uses s Free at i = Keeps i
   fence_done_uses s (Held holder recalled) at i = Keeps i
@@ -235,12 +239,12 @@ module _ (file : FileId) (fresh : Fresh) (old : Option ℕ) where
   copied_by_uses : (layout : LayoutState) (copier : Cred) (targets : List SwappedIn) → Some layout.cred.0 ≡ old → StepUses (copied_by file layout copier targets fresh)
   copied_by_uses layout copier [] i = ((tt, Keeps i), tt)
   copied_by_uses layout copier (t ∷ targets) i =
-      (silent_only fresh.uid (fresh.uid + 1) old (Some fresh.uid) (swapped_entries file (t ∷ targets)) (swapped_silent file (t ∷ targets)) (Draws refl (omega arith)), tt)
+      (silent_only side fresh.uid (fresh.uid + 1) old (Some fresh.uid) (swapped_entries file (t ∷ targets)) (swapped_silent file (t ∷ targets)) (Draws refl (omega arith)), tt)
 
   copied_uses : (layout : LayoutState) (c : CopyState) → Has layout → is_some (kind_of layout.phase) ≡ true → StepUses (copied_on file layout c fresh)
   copied_uses layout c i its =
       cond_both (has_outcome c) (copied_by file layout (a_uid c.copier) (swaps_of c) fresh) (stays layout (Copies c)) StepUses
-      (λ is. copied_by_uses layout (a_uid c.copier) (swaps_of c) (sym (kind_next layout.cred layout.phase its) ∙ i)) (λ off. (Keeps i, its))
+      (λ is. copied_by_uses layout (a_uid c.copier) (swaps_of c) (sym (kind_uid side layout.cred layout.phase its) ∙ i)) (λ off. (Keeps i, its))
 
   target_uses : (layout : LayoutState) (c : CopyState) (cause : LeftCause) (o : Option MirrorId) → Has layout → is_some (kind_of layout.phase) ≡ true → StepUses (target_left file layout c fresh cause o)
   target_uses layout c cause None i its = copied_uses layout c i its
@@ -269,7 +273,7 @@ module _ (file : FileId) (fresh : Fresh) (old : Option ℕ) where
       cond_both (is_out xid stage) (settles_by f (λ copies. settling_answered file layout copies fresh reply) (kind_of f.layout.phase)) (nothing f) StepUses
       (λ is. settles_uses f (λ copies. settling_answered file layout copies fresh reply) (kind_of f.layout.phase) refl
       (λ copies is. settling_uses layout copies reply (source_has f.layout f.layout.live (shown_by_commit reply) i)
-      (ap (λ (c : Cred). Some c.0) same ∙ sym (kind_next f.layout.cred f.layout.phase is) ∙ i)) none)
+      (ap (λ (c : Cred). Some c.0) same ∙ sym (kind_uid side f.layout.cred f.layout.phase is) ∙ i)) none)
       (λ off. none)
   answered_uses f xid reply (Copies c) its i none = copy_uses f.layout (copy.on_reply c xid reply).copy (copy.on_reply c xid reply).step i its
 
@@ -281,30 +285,30 @@ module _ (file : FileId) (fresh : Fresh) (old : Option ℕ) where
   late_uses f xid (Copies c) its i none = copy_uses f.layout (copy.on_timeout c xid).copy (copy.on_timeout c xid).step i its
 
 -- each input of the table
-pub phase_uses : (file : FileId) (fresh : Fresh) (f : MdsFile) (input : FileInput) → Agrees f.activity f.layout.phase
-    → Uses fresh.uid (fresh.uid + (phase file f input fresh).uids) (next_uid f.layout) (phase file f input fresh).entries (next_uid (phase file f input fresh).file.layout)
+pub phase_uses : (side : Side) (file : FileId) (fresh : Fresh) (f : MdsFile) (input : FileInput) → Agrees f.activity f.layout.phase
+    → Uses side fresh.uid (fresh.uid + (phase file f input fresh).uids) (uid_of side f.layout) (phase file f input fresh).entries (uid_of side (phase file f input fresh).file.layout)
     × Agrees (phase file f input fresh).file.activity (phase file f input fresh).file.layout.phase
-phase_uses file fresh f (AsksLayout client) its = asked_uses file fresh (next_uid f.layout) f (Client client) [] f.layout.phase refl tt refl its
-phase_uses file fresh f (OwnWrite at bytes) its = asked_uses file fresh (next_uid f.layout) f Mds (entry.Sent file f.layout.cred at bytes ∷ []) f.layout.phase refl (refl, tt) refl its
-phase_uses file fresh f Recall its =
-    held_uses file fresh (next_uid f.layout) f (by_client f (recalled_row f)) f.layout.phase refl
-    (λ holder was at. client_uses file fresh (next_uid f.layout) f (recalled_row f) (λ n. recalled_uses file fresh (next_uid f.layout) f holder was at refl its n) (Keeps refl, its) holder) (Keeps refl, its)
-phase_uses file fresh f (Returns client claimed places) its =
-    held_uses file fresh (next_uid f.layout) f (by_client f (returned_row file f client claimed places fresh)) f.layout.phase refl
-    (λ holder was at. client_uses file fresh (next_uid f.layout) f (returned_row file f client claimed places fresh) (λ n. returned_uses file fresh (next_uid f.layout) f client claimed places n (Keeps refl, its)) (Keeps refl, its) holder)
+phase_uses side file fresh f (AsksLayout client) its = asked_uses side file fresh (uid_of side f.layout) f (Client client) [] f.layout.phase refl tt refl its
+phase_uses side file fresh f (OwnWrite at bytes) its = asked_uses side file fresh (uid_of side f.layout) f Mds (entry.Sent file f.layout.cred at bytes ∷ []) f.layout.phase refl (refl, tt) refl its
+phase_uses side file fresh f Recall its =
+    held_uses side file fresh (uid_of side f.layout) f (by_client f (recalled_row f)) f.layout.phase refl
+    (λ holder was at. client_uses side file fresh (uid_of side f.layout) f (recalled_row f) (λ n. recalled_uses side file fresh (uid_of side f.layout) f holder was at refl its n) (Keeps refl, its) holder) (Keeps refl, its)
+phase_uses side file fresh f (Returns client claimed places) its =
+    held_uses side file fresh (uid_of side f.layout) f (by_client f (returned_row file f client claimed places fresh)) f.layout.phase refl
+    (λ holder was at. client_uses side file fresh (uid_of side f.layout) f (returned_row file f client claimed places fresh) (λ n. returned_uses side file fresh (uid_of side f.layout) f client claimed places n (ap (uid_by side f.layout.cred) at) (Keeps refl, its)) (Keeps refl, its) holder)
     (Keeps refl, its)
-phase_uses file fresh f (Revokes cause) its =
-    held_uses file fresh (next_uid f.layout) f (by_client f (λ client. revoked_row file f cause fresh)) f.layout.phase refl
-    (λ holder was at. client_uses file fresh (next_uid f.layout) f (λ client. revoked_row file f cause fresh) (λ n. revoked_uses file fresh (next_uid f.layout) f cause (Keeps refl, its)) (Keeps refl, its) holder) (Keeps refl, its)
-phase_uses file fresh f (OwnEnds causes at bytes) its =
+phase_uses side file fresh f (Revokes cause) its =
+    held_uses side file fresh (uid_of side f.layout) f (by_client f (λ client. revoked_row file f cause fresh)) f.layout.phase refl
+    (λ holder was at. client_uses side file fresh (uid_of side f.layout) f (λ client. revoked_row file f cause fresh) (λ n. revoked_uses side file fresh (uid_of side f.layout) f cause (ap (uid_by side f.layout.cred) at) (Keeps refl, its)) (Keeps refl, its) holder) (Keeps refl, its)
+phase_uses side file fresh f (OwnEnds causes at bytes) its =
     let told : Entry = entry.Told file f.layout.cred at bytes in
-    held_uses file fresh (next_uid f.layout) f (by_mds f (own_row file f causes told fresh)) f.layout.phase refl
-    (λ holder was at. mds_uses file fresh (next_uid f.layout) f (own_row file f causes told fresh) (own_uses file fresh (next_uid f.layout) f causes told refl) (Keeps refl, its) holder) (Keeps refl, its)
-phase_uses file fresh f Resilver its = resilver_uses file fresh (next_uid f.layout) f f.layout.phase refl refl its
-phase_uses file fresh f (Answers xid reply) its = answered_uses file fresh (next_uid f.layout) f xid reply f.activity its refl (Keeps refl, its)
-phase_uses file fresh f (TimesOut xid) its = late_uses file fresh (next_uid f.layout) f xid f.activity its refl (Keeps refl, its)
-phase_uses file fresh f Ticks its = (Keeps refl, ticked_agrees f.activity f.layout.phase its)
-phase_uses file fresh f (Sees id seen) its = (Keeps refl, its)
+    held_uses side file fresh (uid_of side f.layout) f (by_mds f (own_row file f causes told fresh)) f.layout.phase refl
+    (λ holder was at. mds_uses side file fresh (uid_of side f.layout) f (own_row file f causes told fresh) (own_uses side file fresh (uid_of side f.layout) f causes told (ap (uid_by side f.layout.cred) at) refl) (Keeps refl, its) holder) (Keeps refl, its)
+phase_uses side file fresh f Resilver its = resilver_uses side file fresh (uid_of side f.layout) f f.layout.phase refl refl its
+phase_uses side file fresh f (Answers xid reply) its = answered_uses side file fresh (uid_of side f.layout) f xid reply f.activity its refl (Keeps refl, its)
+phase_uses side file fresh f (TimesOut xid) its = late_uses side file fresh (uid_of side f.layout) f xid f.activity its refl (Keeps refl, its)
+phase_uses side file fresh f Ticks its = (Keeps refl, ticked_agrees f.activity f.layout.phase its)
+phase_uses side file fresh f (Sees id seen) its = (Keeps refl, its)
 
 -- ---- a call that goes out
 

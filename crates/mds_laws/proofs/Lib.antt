@@ -8,11 +8,12 @@ pub mod GoesWalk
 pub mod Numbers
 mod FileUids
 mod Uids
-mod FileGrants
+pub mod FileGrants
 mod Grants
 mod SlotUses
-mod NextUids
-mod FileCreds
+pub mod PeriodUids
+pub mod FileCreds
+pub mod UsedOnce
 mod GrantsOnce
 mod Handed
 mod TakesNone

@@ -34,8 +34,8 @@ use Rattle.cluster_laws.proofs.FewMirrors.{FileHasFew}
 use Rattle.cluster_laws.proofs.FewSteps.{phase_few, OutFew, out_few}
 use Rattle.mds_laws.proofs.Keeping.{is_note}
 use Rattle.mds_replies.specs.PeriodEntries.{IsBegun}
-use Rattle.mds_replies.proofs.NowUids.{is_making, Agrees}
-use Rattle.mds_replies.proofs.CallsLeave.{out_layout}
+use Rattle.mds_laws.proofs.FileGrants.{out_layout}
+use Rattle.mds_laws.proofs.PeriodUids.{is_making, Agrees}
 use Rattle.mds_replies.proofs.HeldFiles.{After, GoesOn, IsOver, held_after}
 use Rattle.mds_replies.proofs.MirrorsTold.{IsOf, told, is_fencing, Fits, IsGrant, Tells, LeaveSo, phase_tells}
 use Rattle.mds_replies.proofs.MirrorsLeave.{ids_stay}

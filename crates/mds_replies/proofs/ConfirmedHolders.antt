@@ -60,8 +60,8 @@ use Rattle.mds_walk.proofs.Served.{place_served}
 use Rattle.mds_walk.proofs.Requested.{behind_request, behind_begin}
 use Rattle.mds_replies.specs.ClientCalls.{IsCallIn, IsCallFrom, HearsCall, AreCalls, server_after, IsEventOf}
 use Rattle.mds_replies.specs.PeriodEntries.{PeriodsAreConfirmed}
-use Rattle.mds_replies.proofs.CallsLeave.{out_layout}
-use Rattle.mds_replies.proofs.EndsOnce.{FileAgrees}
+use Rattle.mds_laws.proofs.FileGrants.{out_layout}
+use Rattle.mds_laws.proofs.UsedOnce.{FileAgrees}
 use Rattle.mds_replies.proofs.HeldFiles.{After, GoesOn, IsOver, held_after}
 use Rattle.mds_replies.proofs.HolderCases.{Cases, WaitCases}
 use Rattle.mds_replies.proofs.HoldersHold.{HolderHolds, IsByClient, IsAsked, asked_is, kept_was, at_file}

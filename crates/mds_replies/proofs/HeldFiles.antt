@@ -32,7 +32,7 @@ use Rattle.file_rule.specs.declared.fresh.Fresh.{Fresh}
 use Rattle.file_rule.specs.MdsFiles.{Activity, Idle, Makes, Fences, Settles, Copies, MdsFile, FileStep, nothing, stays, a_uid, goes_fencing, goes_on, with_entries, fenced_on, fence_stepped, shown_by_set, seen_by, mirror_at, source_left, settling_timed_out, shown_by_commit, seen_at_source, settling_answered}
 use Rattle.file_rule.specs.FilePhases.{FileInput, AsksLayout, OwnWrite, Recall, Returns, Revokes, OwnEnds, Resilver, Answers, TimesOut, Ticks, Sees, asked_in, held_in, by_client, by_mds, recalled_row, returned_row, revoked_row, own_row, resilvered_in, kind_of, settles_by, answered_in, timed_out_in, phase}
 use Rattle.mds_walk.proofs.Lists.{in_last}
-use Rattle.mds_replies.proofs.NowUids.{is_making, Agrees}
+use Rattle.mds_laws.proofs.PeriodUids.{is_making, Agrees}
 
 pub in_behind : {A : Type 0} (x : A) (front xs : List A) → IsOneOf x xs → IsOneOf x (front ++ xs)
 in_behind x [] xs inside = inside

@@ -34,10 +34,10 @@ use Rattle.mds_walk.proofs.Parts.{HeardAny, AnyCompound}
 use Rattle.mds_laws.proofs.Numbers.{WereSent, sent_more, sent_with, sent_kept}
 use Rattle.mds_walk.proofs.Served.{place_served, served_again}
 use Rattle.mds_replies.specs.ClientCalls.{server_after}
-use Rattle.mds_replies.proofs.NowUids.{Agrees, now_uid, now_by}
-use Rattle.mds_replies.proofs.CallsLeave.{out_layout, out_agrees}
-use Rattle.mds_replies.proofs.EndsOnce.{FileAgrees, Came, Was, IsDrawn, came_of}
-use Rattle.mds_replies.proofs.FileEnds.{phase_uses}
+use Rattle.mds_laws.proofs.FileCreds.{out_agrees, phase_uses}
+use Rattle.mds_laws.proofs.FileGrants.{out_layout}
+use Rattle.mds_laws.proofs.PeriodUids.{Agrees, uid_of, uid_by, Ends}
+use Rattle.mds_laws.proofs.UsedOnce.{FileAgrees, Came, Was, IsDrawn, came_of}
 use Rattle.mds_replies.proofs.HeldFiles.{After, GoesOn, IsOver, held_after}
 use Rattle.mds_replies.proofs.HolderCases.{Cases, RunCases}
 use Rattle.mds_replies.proofs.GoesWalk.{in_each_run}
@@ -133,14 +133,14 @@ behind_holds file fresh s input its holds client is = by_old (kept_was (holder_o
 -- ---- the uid of a file
 
 abbrev pub UidDrawn : ServedFile → Type 0
-UidDrawn s = (uid : ℕ) → now_uid s.file.layout ≡ Some uid → 65536 ≤ uid
+UidDrawn s = (uid : ℕ) → uid_of Ends s.file.layout ≡ Some uid → 65536 ≤ uid
 
 behind_drawn : (file : FileId) (fresh : Fresh) (s : ServedFile) (input : FileInput) → 65536 ≤ fresh.uid → FileAgrees s → UidDrawn s → UidDrawn (file_behind s (phase file s.file input fresh))
 behind_drawn file fresh s input first its old uid is =
     let step : FileStep = phase file s.file input fresh in
-    by_case (came_of fresh.uid (fresh.uid + step.uids) (now_uid s.file.layout) step.entries (now_uid step.file.layout) (phase_uses file fresh s.file input its).0 uid is)
+    by_case (came_of Ends fresh.uid (fresh.uid + step.uids) (uid_of Ends s.file.layout) step.entries (uid_of Ends step.file.layout) (phase_uses Ends file fresh s.file input its).0 uid is)
   where
-    by_case : Came fresh.uid (fresh.uid + (phase file s.file input fresh).uids) (now_uid s.file.layout) (phase file s.file input fresh).entries uid → 65536 ≤ uid
+    by_case : Came Ends fresh.uid (fresh.uid + (phase file s.file input fresh).uids) (uid_of Ends s.file.layout) (phase file s.file input fresh).entries uid → 65536 ≤ uid
     by_case (Was was none) = old uid was
     by_case (IsDrawn new less) = omega (arith, new, first)
 
@@ -179,7 +179,7 @@ put : (m : MdsValue) (file : FileId) (s t : ServedFile) (calls : List AwaitedCal
 put m file s t calls ss ts at same holder seqid agrees were i = record {
   drawn_from_first = i.drawn_from_first;
   agree = all_set FileAgrees m.files (file.0 - 1) t i.agree agrees;
-  fits = all_set UidDrawn m.files (file.0 - 1) t i.fits (λ uid is. at_file UidDrawn m file s at i.fits uid (sym (ap (λ (l : LayoutState). now_uid l) same) ∙ is));
+  fits = all_set UidDrawn m.files (file.0 - 1) t i.fits (λ uid is. at_file UidDrawn m file s at i.fits uid (sym (ap (λ (l : LayoutState). uid_of Ends l) same) ∙ is));
   seqids = all_set FitsSeqid m.files (file.0 - 1) t i.seqids (subst (λ (n : ℕ). n < 4294967296) (sym seqid) (at_file FitsSeqid m file s at i.seqids));
   holders = λ fresh.
       all_set HolderHolds m.files (file.0 - 1) t (i.holders fresh)
@@ -201,7 +201,7 @@ inputs m file s input at es ss i =
     let its : FileAgrees s = at_file FileAgrees m file s at i.agree in
     let new : Stands n.fresh n.files n.calls ss = record {
       drawn_from_first = let first : 65536 ≤ m.fresh.uid = i.drawn_from_first in omega (arith, first);
-      agree = all_set FileAgrees m.files (file.0 - 1) (file_behind s step) i.agree (phase_uses file m.fresh s.file input its).1;
+      agree = all_set FileAgrees m.files (file.0 - 1) (file_behind s step) i.agree (phase_uses Ends file m.fresh s.file input its).1;
       fits = all_set UidDrawn m.files (file.0 - 1) (file_behind s step) i.fits (behind_drawn file m.fresh s input i.drawn_from_first its (at_file UidDrawn m file s at i.fits));
       seqids = all_set FitsSeqid m.files (file.0 - 1) (file_behind s step) i.seqids (at_file FitsSeqid m file s at i.seqids);
       holders = λ fresh.
@@ -323,7 +323,7 @@ holder_holds servers mirrors events fresh file s at = at_file HolderHolds (serve
 
 -- the uid under which a client holds a file
 pub uid_was_drawn : (servers : List AddressValue) (mirrors : ℕ) (events : List MdsEvent) (file : FileId) (s : ServedFile) → served (server_after servers mirrors events) file ≡ Some s → IsByClient s.file.layout.phase → 65536 ≤ s.file.layout.cred.0
-uid_was_drawn servers mirrors events file s at held = at_file UidDrawn (server_after servers mirrors events) file s at (behind_run servers mirrors events).fits s.file.layout.cred.0 (ap (now_by s.file.layout.cred) held.is)
+uid_was_drawn servers mirrors events file s at held = at_file UidDrawn (server_after servers mirrors events) file s at (behind_run servers mirrors events).fits s.file.layout.cred.0 (ap (uid_by Ends s.file.layout.cred) held.is)
 
 pub seqid_fits : (servers : List AddressValue) (mirrors : ℕ) (events : List MdsEvent) (file : FileId) (s : ServedFile) → served (server_after servers mirrors events) file ≡ Some s → s.seqid < 4294967296
 seqid_fits servers mirrors events file s at = at_file FitsSeqid (server_after servers mirrors events) file s at (behind_run servers mirrors events).seqids

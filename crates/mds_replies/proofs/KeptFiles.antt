@@ -13,7 +13,7 @@ use Rattle.mds_rule.specs.MdsStates.{ServedFile, MdsSend, CallsServer, CallsBack
 use Rattle.mds_rule.specs.declared.waiter.Waiter.TheVariants.{ForFile, ForRead, ForWrite, ForRecall}
 use Rattle.mds_rule.specs.Goes.{calls_out}
 use Rattle.mds_laws.proofs.Numbers.{WereSent, sent_more, sent_with}
-use Rattle.mds_replies.proofs.CallsLeave.{out_layout}
+use Rattle.mds_laws.proofs.FileGrants.{out_layout}
 use Rattle.mds_replies.proofs.HolderCases.{OutCases}
 use Rattle.mds_replies.proofs.PeriodKept.{at_place, from_place, sent_with_calls, in_sent}
 use Rattle.mds_replies.proofs.GoesWalk.{out_walk}

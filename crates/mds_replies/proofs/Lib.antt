@@ -1,6 +1,3 @@
-pub mod NowUids
-pub mod FileEnds
-pub mod CallsLeave
 pub mod EndsOnce
 pub mod LegibleResults
 pub mod HolderCases

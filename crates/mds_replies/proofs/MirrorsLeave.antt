@@ -29,7 +29,7 @@ use Rattle.layout_state.specs.Grants.{is_held}
 use Rattle.mds_rule.specs.Answers.{is_failure_of, failures_by_place}
 use Rattle.cluster_laws.specs.FenceLaw.{live_by}
 use Rattle.cluster_laws.proofs.Lives.{own_file, ids_seen, itself}
-use Rattle.mds_replies.proofs.NowUids.{is_making}
+use Rattle.mds_laws.proofs.PeriodUids.{is_making}
 use Rattle.mds_replies.proofs.MirrorsTold.{Fits, is_fencing}
 
 -- ---- lists

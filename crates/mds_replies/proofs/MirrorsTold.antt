@@ -46,7 +46,7 @@ use Rattle.cluster_laws.proofs.Invariant.{live_of}
 use Rattle.cluster_laws.proofs.Journals.{live_append}
 use Rattle.cluster_laws.proofs.Lists.{all_append}
 use Rattle.cluster_laws.proofs.Lives.{own_file, ids_but_for, ids_seen, all_swapped}
-use Rattle.mds_replies.proofs.NowUids.{is_making, loss_kind}
+use Rattle.mds_laws.proofs.PeriodUids.{is_making, loss_kind}
 
 -- ---- entries
 

@@ -33,10 +33,10 @@ use Rattle.mds_walk.specs.MdsRuns.{MdsEvent, run_from}
 use Rattle.mds_walk.proofs.Lists.{in_more, AllOf, all_push, all_set, all_got}
 use Rattle.mds_walk.proofs.Parts.{HeardAny, Enters, AnyCompound}
 use Rattle.mds_laws.proofs.Numbers.{WereSent, sent_more, sent_with, sent_kept}
-use Rattle.mds_replies.proofs.NowUids.{Agrees}
-use Rattle.mds_replies.proofs.CallsLeave.{out_layout, out_agrees}
-use Rattle.mds_replies.proofs.EndsOnce.{FileAgrees}
-use Rattle.mds_replies.proofs.FileEnds.{phase_uses}
+use Rattle.mds_laws.proofs.FileCreds.{out_agrees, phase_uses}
+use Rattle.mds_laws.proofs.FileGrants.{out_layout}
+use Rattle.mds_laws.proofs.PeriodUids.{Agrees, Ends}
+use Rattle.mds_laws.proofs.UsedOnce.{FileAgrees}
 use Rattle.mds_replies.proofs.HeldFiles.{HasEnd, IsHeld, After, GoesOn, IsOver, held_after, in_behind}
 use Rattle.mds_replies.proofs.HolderCases.{Cases, RunCases}
 use Rattle.mds_replies.proofs.GoesWalk.{run_walk}
@@ -175,7 +175,7 @@ module _ (file : FileId) (client uid : ℕ) where
       let n : MdsValue = with_served (record m { fresh = drawn m.fresh step }) other (file_behind s step) in
       let its : FileAgrees s = agrees_at m.files other s at i.agree in
       let new : Stands n.files n.calls (es ++ step.entries) ss = record {
-        agree = all_set FileAgrees m.files (other.0 - 1) (file_behind s step) i.agree (phase_uses other m.fresh s.file input its).1;
+        agree = all_set FileAgrees m.files (other.0 - 1) (file_behind s step) i.agree (phase_uses Ends other m.fresh s.file input its).1;
         goes = set_goes m.files es step.entries other s (file_behind s step) at (λ one hers. behind_hers other s step one hers (held_after other m.fresh hers.node (record { 0 = uid }) s.file input its hers.held)) i.goes;
         were = i.were;
       } in

@@ -16,8 +16,8 @@ use Rattle.mds_walk.specs.MdsRuns.{MdsEvent, after_event, run_from, mds_run}
 use Rattle.mds_walk.proofs.Lists.{in_more}
 use Rattle.mds_replies.specs.ClientCalls.{server_after}
 use Rattle.mds_replies.specs.LayoutReplies.{HasPeriod, EntersEnd, PeriodsGoOn, PeriodsEnd, PeriodsAreOwn}
-use Rattle.mds_replies.proofs.NowUids.{now_by, now_uid}
-use Rattle.mds_replies.proofs.EndsOnce.{run_once, ends_uid, HasNone}
+use Rattle.mds_laws.proofs.PeriodUids.{uid_by, uid_of, Ends}
+use Rattle.mds_laws.proofs.UsedOnce.{run_once, uses_uid, HasNone}
 use Rattle.mds_replies.proofs.HeldFiles.{in_behind}
 use Rattle.mds_replies.proofs.PeriodKept.{Has, Goes, at_place, one_place, run_goes}
 
@@ -54,14 +54,14 @@ from_has m file client uid h = record {
 }
 
 -- its uid is the file's
-uid_now : (m : MdsValue) (file : FileId) (client uid : ℕ) (p : HasPeriod m file client uid) → now_uid p.file_is.file.layout ≡ Some uid
-uid_now m file client uid p = ap (now_by p.file_is.file.layout.cred) p.phase ∙ ap (λ (n : ℕ). Some n) p.its_uid
+uid_now : (m : MdsValue) (file : FileId) (client uid : ℕ) (p : HasPeriod m file client uid) → uid_of Ends p.file_is.file.layout ≡ Some uid
+uid_now m file client uid p = ap (uid_by Ends p.file_is.file.layout.cred) p.phase ∙ ap (λ (n : ℕ). Some n) p.its_uid
 
 -- ---- they go on
 
 pub periods_go_on : PeriodsGoOn
 periods_go_on servers mirrors before more file client uid calls p =
-    by_case (run_goes file client uid (server_after servers mirrors before) more (run_once servers mirrors before).agree (to_has (server_after servers mirrors before) file client uid p))
+    by_case (run_goes file client uid (server_after servers mirrors before) more (run_once Ends servers mirrors before).agree (to_has (server_after servers mirrors before) file client uid p))
   where
     by_case : Goes file client uid (run_from (server_after servers mirrors before) more).mds.files (run_from (server_after servers mirrors before) more).entries
         → HasPeriod (server_after servers mirrors (before ++ more)) file client uid ⊎ EntersEnd (run_from (server_after servers mirrors before) more).entries file uid
@@ -75,12 +75,12 @@ both_off : (a b : Bool) → (a || b) ≡ false → (a ≡ false) × (b ≡ false
 both_off true b is = absurd cc
 both_off false b is = (refl, is)
 
-none_in : (uid : ℕ) (es : List Entry) (e : Entry) → HasNone uid es → IsOneOf e es → ends_uid uid e ≡ false
+none_in : (uid : ℕ) (es : List Entry) (e : Entry) → HasNone Ends uid es → IsOneOf e es → uses_uid Ends uid e ≡ false
 none_in uid [] e none inside = absurd inside
-none_in uid (x ∷ es) e none (inl is) = ap (ends_uid uid) is ∙ (both_off (ends_uid uid x) (list_any (ends_uid uid) es) none).0
-none_in uid (x ∷ es) e none (inr inside) = none_in uid es e (both_off (ends_uid uid x) (list_any (ends_uid uid) es) none).1 inside
+none_in uid (x ∷ es) e none (inl is) = ap (uses_uid Ends uid) is ∙ (both_off (uses_uid Ends uid x) (list_any (uses_uid Ends uid) es) none).0
+none_in uid (x ∷ es) e none (inr inside) = none_in uid es e (both_off (uses_uid Ends uid x) (list_any (uses_uid Ends uid) es) none).1 inside
 
-not_ended : (uid : ℕ) (es : List Entry) (file : FileId) → HasNone uid es → EntersEnd es file uid → ⊥
+not_ended : (uid : ℕ) (es : List Entry) (file : FileId) → HasNone Ends uid es → EntersEnd es file uid → ⊥
 not_ended uid es file none e = not_so (sym (eq-eqb uid uid refl) ∙ none_in uid es (entry.Ended file (record { 0 = uid }) e.cause) none e.there)
   where
     not_so : true ≡ false → ⊥
@@ -88,9 +88,9 @@ not_ended uid es file none e = not_so (sym (eq-eqb uid uid refl) ∙ none_in uid
 
 -- behind each run a uid that is held under ended no period
 still_none : (servers : List AddressValue) (mirrors : ℕ) (events : List MdsEvent) (file : FileId) (client uid : ℕ) → HasPeriod (server_after servers mirrors events) file client uid
-    → HasNone uid (mds_run servers mirrors events).entries
+    → HasNone Ends uid (mds_run servers mirrors events).entries
 still_none servers mirrors events file client uid p =
-    ((run_once servers mirrors events).unspent (file.0 - 1) p.file_is uid (at_place (server_after servers mirrors events).files file p.file_is p.there).1 (uid_now (server_after servers mirrors events) file client uid p)).1
+    ((run_once Ends servers mirrors events).unspent (file.0 - 1) p.file_is uid (at_place (server_after servers mirrors events).files file p.file_is p.there).1 (uid_now (server_after servers mirrors events) file client uid p)).1
 
 pub periods_end : PeriodsEnd
 periods_end servers mirrors before more file uid calls e other client p =
@@ -109,7 +109,7 @@ one_now servers mirrors events file other client stranger uid p q =
     let m : MdsValue = server_after servers mirrors events in
     let mine = at_place m.files file p.file_is p.there in
     let theirs = at_place m.files other q.file_is q.there in
-    let same : file.0 - 1 ≡ other.0 - 1 = (run_once servers mirrors events).apart (file.0 - 1) (other.0 - 1) p.file_is q.file_is uid mine.1 theirs.1 (uid_now m file client uid p) (uid_now m other stranger uid q) in
+    let same : file.0 - 1 ≡ other.0 - 1 = (run_once Ends servers mirrors events).apart (file.0 - 1) (other.0 - 1) p.file_is q.file_is uid mine.1 theirs.1 (uid_now m file client uid p) (uid_now m other stranger uid q) in
     let one : p.file_is ≡ q.file_is = same_Some p.file_is q.file_is (sym mine.1 ∙ ap (slice_get m.files) same ∙ theirs.1) in
     (ap (λ (n : ℕ). record { 0 = n }) (one_place file.0 other.0 mine.0 theirs.0 same), same_Some client stranger (sym p.holder ∙ ap (λ (s : ServedFile). s.holder) one ∙ q.holder))
 

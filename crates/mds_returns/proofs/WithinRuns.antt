@@ -32,7 +32,7 @@ use Rattle.mds_laws.proofs.Numbers.{WereSent, sent_more, sent_with, sent_kept}
 use Rattle.cluster_laws.specs.FenceLaw.{live_in, live_by}
 use Rattle.cluster_laws.proofs.Journals.{live_append}
 use Rattle.mds_replies.specs.ClientCalls.{server_after}
-use Rattle.mds_replies.proofs.CallsLeave.{out_layout}
+use Rattle.mds_laws.proofs.FileGrants.{out_layout}
 use Rattle.mds_replies.proofs.HolderCases.{Cases, RunCases}
 use Rattle.mds_replies.proofs.GoesWalk.{in_each_run}
 use Rattle.mds_replies.proofs.PeriodKept.{at_place, is_some_number}

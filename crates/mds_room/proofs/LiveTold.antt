@@ -17,7 +17,7 @@ use Rattle.cluster_laws.proofs.Invariant.{live_of}
 use Rattle.cluster_laws.proofs.Lists.{all_append}
 use Rattle.mds_walk.proofs.Lists.{AllOf}
 use Rattle.mds_replies.specs.AnsweredRequests.{FitsMirrorId}
-use Rattle.mds_replies.proofs.NowUids.{is_making}
+use Rattle.mds_laws.proofs.PeriodUids.{is_making}
 use Rattle.mds_room.specs.Room.{IsLiveInRange}
 use Rattle.mds_room.proofs.ServersIn.{IsIn}
 
