@@ -1,9 +1,13 @@
 mod FileLists
+mod FoundReads
 mod KeptNames
 mod NameLists
 mod QuietLemmas
 mod ReadLists
+mod ReadStages
 mod ReadSteps
+mod Removed
 mod SendLemmas
 mod StillLemmas
+mod TicketLemmas
 mod Walks

@@ -1,9 +1,9 @@
 -- Reads of a file, one after the other.
-use Rattle.std.proofs.Common.{◌≡◌, ℕ, zero, suc, ◌<◌, ◌+◌, Bool, true, false, List, [], ◌∷◌, ◌++◌, length, map, take, drop, set, get_or, Some, refl, ap, ◌∙◌, arith}
+use Rattle.std.proofs.Common.{◌≡◌, ℕ, zero, suc, ◌<◌, ◌≤◌, ◌+◌, Bool, true, false, List, [], ◌∷◌, ◌++◌, length, map, take, drop, set, get_or, Some, take_all, append-nil, refl, ap, ◌∙◌, arith}
 use Rattle.std.specs.Prelude.{slice_get, ◌&&◌}
 use Rattle.std.specs.List.{list_all}
 use Rattle.std.proofs.lemmas.Option.{same_Some}
-use Rattle.std.proofs.lemmas.List.{get_or_default}
+use Rattle.std.proofs.lemmas.List.{get_or_default, drop_all}
 use Rattle.std.proofs.lemmas.List.Edits.{map_over_more}
 use Rattle.cluster_model.specs.declared.ids.Mirror.{Mirror}
 use Rattle.mds_io.specs.Reads.{ReadState, begun_again}
@@ -31,6 +31,10 @@ module _ {X : Type 0} where
   one_fails p [] i x at fails = absurd cc
   one_fails p (y ∷ xs) zero x at fails = first_fails _ _ (ap p (same_Some y x at) ∙ fails)
   one_fails p (y ∷ xs) (suc i) x at fails = rest_fails _ _ (one_fails p xs i x at fails)
+
+-- all of a list was written anew
+pub all_new : {X : Type 0} (n : ℕ) (new old : List X) → length old ≤ length new → length new ≤ n → take n (new ++ drop (length new) old) ≡ new
+all_new n new old none within = ap (λ rest. take n (new ++ rest)) (drop_all (length new) old none) ∙ ap (take n) (append-nil new) ∙ take_all n new within
 
 abbrev pub waiting_as : CompoundRun → ReadState → WaitingRead
 waiting_as c r = record { compound = c; read = r }

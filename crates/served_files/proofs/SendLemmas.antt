@@ -1,6 +1,6 @@
 -- Which call of a file goes out, by the part of it that sends.
 use Rattle.std.proofs.Common.{◌≡◌, ℕ, zero, suc, ◌≤◌, Bool, true, false, cond, List, [], ◌∷◌, length, set, Option, Some, None, Result, Ok, Err, refl, sym, ap, subst, ◌∙◌, arith}
-use Rattle.std.specs.Prelude.{slice_get}
+use Rattle.std.specs.Prelude.{slice_get, is_some, is_err}
 use Rattle.std.specs.Option.{option_map}
 use Rattle.std.proofs.lemmas.Option.{same_Some}
 use Rattle.ff_xdr.specs.declared.error.NoMemory.{NoMemory}
@@ -23,7 +23,7 @@ use Rattle.mds_rule.specs.MdsStates.{WaitingRead, WaitingWrite, ServedFile}
 use Rattle.mds_rule.specs.Goes.{OwnCall, own_of_file, own_of_write, own_by}
 use Rattle.mds_rule.specs.declared.waiter.Waiter.{Waiter}
 use Rattle.served_files.specs.declared.sending.SentByFile.{SentByFile}
-use Rattle.served_files.specs.Sending.{OwnWaits, SendsOwn, ReadWaits, read_sent, SendsReadAt, SendsFileRead, SentOfWrite, SentOfFile, SentOfRead}
+use Rattle.served_files.specs.Sending.{OwnWaits, SendsOwn, ReadWaits, read_sent, SendsReadAt, SendsFileRead, SentOfWrite, SentOfFile, SentOfRead, SendsOne, SendsAmong}
 
 -- ---- to which server it waits
 
@@ -105,7 +105,7 @@ sent_at file old n xid r (Some sent) (Ok (Some c)) v next same (goes, caller, se
     (sent, next, ap (λ (u : WaitingRead). record old { reads = set old.reads n u }) goes, caller, server, uid, call)
 
 -- a list with what stands at a place put there again
-set_same : (rs : List WaitingRead) (n : ℕ) (r : WaitingRead) → slice_get rs n ≡ Some r → set rs n r ≡ rs
+pub set_same : (rs : List WaitingRead) (n : ℕ) (r : WaitingRead) → slice_get rs n ≡ Some r → set rs n r ≡ rs
 set_same [] n r is = absurd (cc)
 set_same (q ∷ rs) zero r is = ap (λ (p : WaitingRead). p ∷ rs) (sym (same_Some q r is))
 set_same (q ∷ rs) (suc n) r is = ap (λ (ps : List WaitingRead). q ∷ ps) (set_same rs n r is)
@@ -113,3 +113,34 @@ set_same (q ∷ rs) (suc n) r is = ap (λ (ps : List WaitingRead). q ∷ ps) (se
 pub sends_by_read : (file : FileId) (old : ServedFile) (n xid : ℕ) (r : WaitingRead) (result : Result (Option SentByFile) NoMemory) (v : WaitingRead) → slice_get old.reads n ≡ Some r → SentOfRead file r (read.next_sent r.read xid) result v → SendsFileRead file old n xid result (record old { reads = set old.reads n v })
 sends_by_read file old n xid r result v is said =
     subst (SendsReadAt file old n xid result (record old { reads = set old.reads n v })) (sym is) (sent_at file old n xid r (read.next_sent r.read xid) result v refl (set_same old.reads n r is) said)
+
+-- ---- one among many goes out
+
+pub never_waits : (r : ReadState) (o : Option MirrorId) → is_some o ≡ false → ((xid : ℕ) → read_calls.WaitsAt r xid o) → (xid : ℕ) → read.next_sent r xid ≡ None
+never_waits r None none waits = waits
+never_waits r (Some id) none waits = absurd (cc)
+
+module _ (file : FileId) (reads : List WaitingRead) (n xid : ℕ) (r : WaitingRead) where
+  -- it does not wait
+  pub stays_among : slice_get reads n ≡ Some r → read.next_sent r.read xid ≡ None → SendsAmong file reads n xid (Ok None) reads
+  stays_among at none = subst (SendsOne file reads n xid (Ok None) reads) (sym at) (r, subst (λ (o : Option ReadSends). SentOfRead file r o (Ok None) r) (sym none) refl, sym (set_same reads n r at))
+
+  -- memory was wanted before
+  pub fails_among : (result : Result (Option SentByFile) NoMemory) → is_err result ≡ true → slice_get reads n ≡ Some r → SendsAmong file reads n xid result reads
+  fails_among (Ok sent) failed at = absurd (cc)
+  fails_among (Err e) failed at = subst (SendsOne file reads n xid (Err e) reads) (sym at) (r, tt, sym (set_same reads n r at))
+
+  pub goes_among : (result : Result (Option SentByFile) NoMemory) (v : WaitingRead) → slice_get reads n ≡ Some r → SentOfRead file r (read.next_sent r.read xid) result v → SendsAmong file reads n xid result (set reads n v)
+  goes_among result v at said = subst (SendsOne file reads n xid result (set reads n v)) (sym at) (v, said, refl)
+
+-- the file of which it is one
+by_place : (file : FileId) (old : ServedFile) (n xid : ℕ) (result : Result (Option SentByFile) NoMemory) (reads : List WaitingRead) (o : Option WaitingRead) → slice_get old.reads n ≡ o → SendsOne file old.reads n xid result reads o
+    → SendsFileRead file old n xid result (record old { reads = reads })
+by_place file old n xid result reads None at (none, same) =
+    subst (SendsReadAt file old n xid result (record old { reads = reads })) (sym at)
+    (subst (λ (o : Result (Option SentByFile) NoMemory). SendsReadAt file old n xid o (record old { reads = reads }) None) (sym none) (ap (λ (rs : List WaitingRead). record old { reads = rs }) same))
+by_place file old n xid result reads (Some r) at (v, said, same) =
+    subst (λ (rs : List WaitingRead). SendsFileRead file old n xid result (record old { reads = rs })) (sym same) (sends_by_read file old n xid r result v at said)
+
+pub sends_by_reads : (file : FileId) (old : ServedFile) (n xid : ℕ) (result : Result (Option SentByFile) NoMemory) (reads : List WaitingRead) → SendsAmong file old.reads n xid result reads → SendsFileRead file old n xid result (record old { reads = reads })
+sends_by_reads file old n xid result reads said = by_place file old n xid result reads (slice_get old.reads n) refl said

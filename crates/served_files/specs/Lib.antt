@@ -2,3 +2,4 @@ pub mod Waiting
 pub mod Sending
 pub mod FileSteps
 pub mod Quiet
+pub mod Tickets

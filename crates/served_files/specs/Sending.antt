@@ -1,5 +1,5 @@
 -- Which calls of a file go out, and to which server the next one waits.
-use Rattle.std.specs.Prelude.{◌≡◌, ℕ, Option, Some, None, Result, Ok, Err, ⊤, slice_get, slice_set}
+use Rattle.std.specs.Prelude.{◌≡◌, ℕ, List, Option, Some, None, Result, Ok, Err, ⊤, slice_get, slice_set}
 use Rattle.ff_xdr.specs.declared.error.NoMemory.{NoMemory}
 use Rattle.cluster_model.specs.declared.ids.FileId.{FileId}
 use Rattle.file_rule.specs.MdsFiles.{MdsFile}
@@ -91,3 +91,11 @@ SentOfRead file old (Some sent) (Ok (Some c)) new =
     × (c.server ≡ sent.id.server)
     × (c.uid.0 ≡ 0)
     × (c.call ≡ sent.call)
+
+-- the one at this place among these goes out
+abbrev pub SendsOne : FileId → List WaitingRead → ℕ → ℕ → Result (Option SentByFile) NoMemory → List WaitingRead → Option WaitingRead → Type 0
+SendsOne file old n xid result new None = (result ≡ Ok None) × (new ≡ old)
+SendsOne file old n xid result new (Some r) = (v : WaitingRead) × SentOfRead file r (read.next_sent r.read xid) result v × (new ≡ slice_set old n v)
+
+abbrev pub SendsAmong : FileId → List WaitingRead → ℕ → ℕ → Result (Option SentByFile) NoMemory → List WaitingRead → Type 0
+SendsAmong file old n xid result new = SendsOne file old n xid result new (slice_get old n)

@@ -1,7 +1,8 @@
 -- What steps of READs and of own WRITEs leave of a file, and which of them end.
-use Rattle.std.specs.Prelude.{◌≡◌, ℕ, ◌<◌, ◌^◌, Bool, List, ◌++◌, length, Option, Some, None, Result, Ok, Err, ⊤, slice_get, slice_set, remove, position}
+use Rattle.std.specs.Prelude.{◌≡◌, ℕ, ◌<◌, ◌^◌, ◌⊎◌, Bool, true, List, ◌++◌, length, Option, Some, None, Result, Ok, Err, ⊤, slice_get, slice_set, remove, position}
 use Rattle.ff_xdr.specs.declared.error.NoMemory.{NoMemory}
 use Rattle.cluster_model.specs.declared.entry.Entry.{Entry}
+use Rattle.cluster_model.specs.Fences.{is_out}
 use Rattle.mds_io.specs.declared.read_end.ReadEnd.{ReadEnd}
 use Rattle.mds_io.specs.declared.read_end.ReadEnd.TheVariants as end
 use Rattle.mds_io.specs.Reads.{ReadState, ReadAfter}
@@ -63,6 +64,14 @@ GivesFew (Some e) = IsFew e.end
 abbrev pub EndsFew : Option ReadEnd → Type 0
 EndsFew None = ⊤
 EndsFew (Some by) = IsFew by
+
+-- one is out under no number under which it was not
+abbrev pub OutAsBefore : ReadState → ReadState → Type 0
+OutAsBefore old new = (xid : ℕ) → is_out xid new.stage ≡ true → is_out xid old.stage ≡ true
+
+-- nor under another one than this
+abbrev pub OutUnder : ℕ → ReadState → ReadState → Type 0
+OutUnder own old new = (xid : ℕ) → is_out xid new.stage ≡ true → (is_out xid old.stage ≡ true) ⊎ (xid ≡ own)
 
 -- the step of one of them, and the entries of its failures
 abbrev pub StepsOne : ReadAfter → WaitingRead → List Entry → Result (Option ReadEnd) NoMemory → WaitingRead → List Entry → Type 0

@@ -21,7 +21,8 @@ ghost use Rattle.served_files.specs.Waiting.{StepsRead, GivesFew, StepsWrite, Wr
 ghost use Rattle.served_files.specs.FileSteps.{TakesStep, heard};
 ghost use Rattle.served_files.specs.Quiet.{IsFileStill};
 
-use crate::reading::{EndedRead, WaitingRead, answer_in, has_out, restart_behind, time_out_in};
+use crate::reading::EndedRead;
+use crate::waiting_reads::WaitingReads;
 use crate::writing::{EndedWrite, WaitingWrite, causes_of, has_failed_everywhere};
 use cluster_model::{DsCall, DsReply, Entry, FileId, MirrorId, Phase};
 use compound_run::KeptRun;
@@ -32,7 +33,6 @@ use file_notes::{
 use file_rule::Fresh;
 use layout_state::FileState;
 use mds_file::{FileInput, MdsFile};
-use mds_io::MdsRead;
 use open_state::next_seqid;
 use std::alloc::Global;
 use std::marker::Model;
@@ -52,7 +52,7 @@ pub struct ServedFile {
     pub seqid: u32,
     pub write: Option<WaitingWrite>,
     /// In the order in which they began.
-    pub reads: Vec<WaitingRead>,
+    pub reads: WaitingReads,
 }
 
 impl Model for ServedFile {
@@ -60,7 +60,7 @@ impl Model for ServedFile {
 
     ghost Value = { ServedFile };
 
-    ghost view = { λ s. record { name = s.name; file = s.file; sizes = s.sizes.items; periods = s.periods; holder = s.holder; seqid = s.seqid; write = s.write; reads = s.reads.items } };
+    ghost view = { λ s. record { name = s.name; file = s.file; sizes = s.sizes.items; periods = s.periods; holder = s.holder; seqid = s.seqid; write = s.write; reads = s.reads } };
 }
 
 impl ServedFile {
@@ -76,7 +76,7 @@ impl ServedFile {
             holder: None,
             seqid: 0,
             write: None,
-            reads: Vec::new(alloc),
+            reads: WaitingReads::new(alloc),
         }
     }
 
@@ -118,7 +118,7 @@ impl ServedFile {
     {
         let state = self.file.state();
         self.periods = self.periods.wrapping_add(count_periods(told) as u64);
-        restart_behind(told, state.live(), &mut self.reads);
+        self.reads.restart_behind(told, state.live());
         self.follow(state);
         has_period_end(told)
     }
@@ -166,7 +166,7 @@ impl ServedFile {
     pub fn has_read_out(&self, xid: u32) -> bool
         ensures { result ≡ list_any (is_read_out xid) self.now.reads }
     {
-        has_out(xid, &self.reads)
+        self.reads.has_out(xid)
     }
 
     /// The call of this number is one of its own WRITE.
@@ -184,9 +184,8 @@ impl ServedFile {
         ensures read { OnOk result (self.new ≡ with_read compound at count self.old) }
         ensures name { self.new.name ≡ self.old.name }
     {
-        let read = MdsRead::start(self.file.state().live(), at, count);
-        self.reads.push(WaitingRead { compound, read })?;
-        Ok(())
+        let live = self.file.state().live();
+        self.reads.begin(compound, live, at, count)
     }
 
     /// An answer to the READ of this number. Takes memory.
@@ -202,7 +201,7 @@ impl ServedFile {
         ensures stays { self.new ≡ record self.old { reads = self.new.reads } }
         ensures few { IfOk result GivesFew }
     {
-        answer_in(alloc, xid, reply, &mut self.reads, entries)
+        self.reads.answer(alloc, xid, reply, entries)
     }
 
     /// A timeout of the READ of this number. Takes memory.
@@ -215,7 +214,7 @@ impl ServedFile {
         ensures stays { self.new ≡ record self.old { reads = self.new.reads } }
         ensures few { IfOk result GivesFew }
     {
-        time_out_in(xid, &mut self.reads, entries)
+        self.reads.time_out(xid, entries)
     }
 
     /// The metadata server's own WRITE of 1 to 65,536 bytes begins, and the compound waits for it. Takes memory.

@@ -7,11 +7,14 @@ mod files;
 mod names;
 mod reading;
 mod sending;
+mod tickets;
 mod touched;
+mod waiting_reads;
 mod writing;
 
 pub use file::ServedFile;
 pub use files::{Files, MAX_FILES};
 pub use reading::{EndedRead, WaitingRead};
 pub use sending::SentByFile;
+pub use waiting_reads::WaitingReads;
 pub use writing::{EndedWrite, WaitingWrite};

@@ -9,6 +9,7 @@ ghost use Rattle.mds_io.specs.Reads as read;
 ghost use Rattle.mirror_writer.specs.Writers as writer;
 ghost use Rattle.mds_rule.specs.Goes.{place_or_last, place_of};
 ghost use Rattle.served_files.specs.Sending.{OwnWaits, SendsOwn, ReadWaits, SendsFileRead, SentOfWrite, SentOfFile, SentOfRead};
+ghost use Rattle.served_files.specs.Waiting.{OutUnder};
 ghost use Rattle.served_files.specs.Quiet.{IsFileQuiet};
 
 use crate::file::ServedFile;
@@ -77,10 +78,7 @@ impl ServedFile {
     ) -> Result<Option<SentByFile>, NoMemory>
         ensures { SendsFileRead file self.old n xid result self.new }
     {
-        if n >= self.reads.len() {
-            return Ok(None);
-        }
-        send_of_read(alloc, file, xid, &mut self.reads[n])
+        self.reads.send(alloc, file, n, xid)
     }
 
     /// Neither an own call of it waits to go out nor one of its READs. It costs by the READs.
@@ -167,13 +165,14 @@ fn send_of_file(
 }
 
 /// The call of a READ goes out under this number, by uid 0; `None` where it does not wait. Takes memory.
-fn send_of_read(
+pub fn send_of_read(
     alloc: Global,
     file: FileId,
     xid: u32,
     waiting: &mut WaitingRead,
 ) -> Result<Option<SentByFile>, NoMemory>
-    ensures { SentOfRead file waiting.old (read.next_sent waiting.old.read xid) result waiting.new }
+    ensures sends { SentOfRead file waiting.old (read.next_sent waiting.old.read xid) result waiting.new }
+    ensures out { OutUnder xid waiting.old.read waiting.new.read }
 {
     let Some((id, call)) = waiting.read.next_call(xid) else {
         return Ok(None);

@@ -16,7 +16,7 @@ loop-n-preserved c =
 pub returns-clause-quiet : goal.returns-clause-quiet
 returns-clause-quiet c =
     let s = c.args.self.now in
-    let seen : length c.self.inside.reads.items ≡ length s.reads = ap (λ (t : ServedFile). length t.reads) c.self.view_is in
+    let seen : length c.self.inside.reads ≡ length s.reads = ap (λ (t : ServedFile). length t.reads) c.self.view_is in
     let all : length s.reads ≤ c.loop-n.n = omega (arith, seen, c.len-n-end.ensures, c.loop-n-test.false) in
     record {
       own = own_rests s c.waiting_server.result (sym c.is_some.ensures ∙ c.if-is_some.false) c.waiting_server.ensures;

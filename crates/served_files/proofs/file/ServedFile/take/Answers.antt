@@ -15,6 +15,6 @@ returns-clause-still c =
       holder = c.self.inside.holder;
       seqid = c.self.inside.seqid;
       write = c.self.inside.write;
-      reads = c.self.inside.reads.items;
+      reads = c.self.inside.reads;
     } in
     λ idle. subst IsFileStill (sym c.hear.ensures.file) (heard_still s (take (length c.deref.result.now - c.len-before.result) (drop c.len-before.result c.deref.result.now)) (sym (ap (λ (s : ServedFile). is_idle s.file.activity) c.hear.ensures.file) ∙ idle))
