@@ -10,16 +10,26 @@ use Rattle.node_config.specs.declared.config.TheConstants.{MAX_SERVERS, MAX_MIRR
 use Rattle.world_journal.specs.declared.fault.WorldFault.{WorldFault}
 use Rattle.world_journal.specs.Journal.{max_entries, IsJournalInRange}
 use Rattle.packet_table.specs.Packets.{next_waiting}
-use Rattle.ff_world.specs.World.{WorldStep, WorldValue, world_step}
+use Rattle.ff_script.specs.Line.{event_value}
+use Rattle.ff_world.specs.World.{WorldStep, WorldValue, world_step, server_at}
 use Rattle.cluster_script.specs.declared.sizes.ClusterSizes.{ClusterSizes}
+use Rattle.cluster_script.specs.ClusterLines.{cluster_event}
+use Rattle.cluster_model.specs.Server.{ServerState}
+use Rattle.mds_rule.specs.MdsStates.{MdsValue}
+use Rattle.client_state.specs.ClientStates.{ClientValue}
+use Rattle.world_rule.specs.Machines.{nth}
 use Rattle.world_rule.specs.ClusterWorlds.{ClusterState, packets, cluster_step}
 use Rattle.world_rule.specs.ClusterRuns.{entries_added}
-use Rattle.cluster_world.specs.WorldSteps.{ClusterValue}
+use Rattle.cluster_world.specs.WorldSteps.{ClusterValue, IsOfScript}
 use Rattle.journal_print.specs.declared.mode.Mode.{Mode}
 use Rattle.ff_replay.specs.declared.setup.Setup.{Setup}
 use Rattle.ff_replay.specs.declared.setup.Setup.TheVariants.{Bare, Cluster}
-use Rattle.ff_replay.specs.declared.stage.Stage.{Stage}
-use Rattle.ff_replay.specs.declared.stage.Stage.TheVariants as stage
+use Rattle.ff_replay.specs.declared.line.Event.{Event}
+use Rattle.ff_replay.specs.declared.line.Event.TheVariants as event
+use Rattle.ff_replay.specs.declared.line.Line.{Line}
+use Rattle.ff_replay.specs.declared.line.Line.TheVariants as line
+use Rattle.ff_replay.specs.declared.world.World.{World}
+use Rattle.ff_replay.specs.declared.world.World.TheVariants as world
 use Rattle.ff_replay.specs.Script.{ScriptLine, SaysNothing, SetsUp, Happens, ScriptWorld, BareWorld, ClusterWorld, world_of, setup_of, count_of, journal_so_far, line_in, trace_of, closing_of}
 
 -- an empty line, or one that begins with `#` (35)
@@ -102,17 +112,17 @@ pub record PlayerValue : Type 0 where
   pub spent : Option WorldFault
   pub flows : Bool
 
-abbrev pub stage_world : Stage → ScriptWorld
-stage_world (stage.Bare w) = BareWorld w.world
-stage_world (stage.Cluster sizes w) = ClusterWorld sizes w.world
+abbrev pub script_world : World → ScriptWorld
+script_world (world.Bare w) = BareWorld w.world
+script_world (world.Cluster sizes w) = ClusterWorld sizes w.world
 
-abbrev pub stage_spent : Stage → Option WorldFault
-stage_spent (stage.Bare w) = w.spent
-stage_spent (stage.Cluster sizes w) = w.spent
+abbrev pub spent_by : World → Option WorldFault
+spent_by (world.Bare w) = w.spent
+spent_by (world.Cluster sizes w) = w.spent
 
-abbrev pub player_of : Mode → Option Stage → Bool → PlayerValue
+abbrev pub player_of : Mode → Option World → Bool → PlayerValue
 player_of mode None flows = record { mode = mode; stage = None; spent = None; flows = flows }
-player_of mode (Some s) flows = record { mode = mode; stage = Some (stage_world s); spent = stage_spent s; flows = flows }
+player_of mode (Some s) flows = record { mode = mode; stage = Some (script_world s); spent = spent_by s; flows = flows }
 
 -- ---- where lines lead
 
@@ -176,8 +186,8 @@ pub record PlayerState : Type 0 where
 abbrev pub with_trace : PlayerValue → List ℕ → PlayerState
 with_trace p trace = record { stage = p.stage; spent = p.spent; trace = trace }
 
-abbrev pub player_at : Stage → List ℕ → PlayerState
-player_at s trace = record { stage = Some (stage_world s); spent = stage_spent s; trace = trace }
+abbrev pub player_at : World → List ℕ → PlayerState
+player_at s trace = record { stage = Some (script_world s); spent = spent_by s; trace = trace }
 
 abbrev pub at_bare : WorldValue → List ℕ → PlayerState
 at_bare w trace = record { stage = Some (BareWorld w.world); spent = w.spent; trace = trace }
@@ -234,3 +244,43 @@ pub record AreSizes (sizes : ClusterSizes) : Type 0 where
 abbrev pub IsSetup : Setup → Type 0
 IsSetup Bare = ⊤
 IsSetup (Cluster sizes) = AreSizes sizes
+
+-- ---- what the code's lines and events say
+
+abbrev pub event_said : Event → EventValue
+event_said (event.Bare e) = event_value e
+event_said (event.Cluster e) = cluster_event e
+
+abbrev pub line_said : Line → ScriptLine
+line_said line.Nothing = SaysNothing
+line_said (line.Setup chosen) = SetsUp chosen
+line_said (line.Event e) = Happens (event_said e)
+
+-- an event is one of a setup
+abbrev pub IsEventOf : Setup → Event → Type 0
+IsEventOf Bare (event.Bare e) = ⊤
+IsEventOf Bare (event.Cluster e) = ⊥
+IsEventOf (Cluster sizes) (event.Bare e) = ⊥
+IsEventOf (Cluster sizes) (event.Cluster e) = IsOfScript (cluster_event e)
+
+-- a line is one that may stand behind a setup, or before any
+abbrev pub IsLineOf : Option Setup → Line → Type 0
+IsLineOf setup line.Nothing = ⊤
+IsLineOf None (line.Setup chosen) = IsSetup chosen
+IsLineOf (Some setup) (line.Setup chosen) = ⊥
+IsLineOf None (line.Event e) = ⊥
+IsLineOf (Some setup) (line.Event e) = IsEventOf setup e
+
+-- ---- the nodes of a world, where it has them
+
+abbrev pub mds_in : ScriptWorld → Option MdsValue
+mds_in (BareWorld w) = None
+mds_in (ClusterWorld sizes w) = Some w.machines.mds
+
+abbrev pub server_in : ScriptWorld → ℕ → Option ServerState
+server_in (BareWorld w) number = server_at w number
+server_in (ClusterWorld sizes w) number = nth w.machines.servers number
+
+abbrev pub client_in : ScriptWorld → ℕ → Option ClientValue
+client_in (BareWorld w) number = None
+client_in (ClusterWorld sizes w) number = nth w.machines.clients number

@@ -84,7 +84,7 @@ pub data ScriptWorld : Type 0 where
 
 -- the world of a setup, before any event
 abbrev pub world_of : Setup → ScriptWorld
-world_of Bare = BareWorld (preset_world Rattle.ff_script.specs.declared.line.Setup.TheVariants.Bare)
+world_of Bare = BareWorld preset_world
 world_of (Cluster sizes) = ClusterWorld sizes (new_cluster sizes.servers sizes.mirrors sizes.clients)
 
 -- the journal so far

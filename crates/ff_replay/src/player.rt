@@ -6,8 +6,8 @@ ghost use Rattle.world_journal.specs.Journal.{IsJournalInRange};
 ghost use Rattle.ff_replay.specs.Script.{journal_so_far};
 ghost use Rattle.ff_replay.specs.Player.{PlayerPlays, with_trace, played, flowing, is_unfinished, room_of};
 
-use crate::reading::{is_comment, parse_setup};
-use crate::stage::Stage;
+use crate::line::{Line, parse_line};
+use crate::world::World;
 use crate::writing::print_closing;
 use cluster_model::Entry;
 use ff_xdr::{NoMemory, Out};
@@ -21,7 +21,7 @@ use std::marker::Model;
 pub struct Player {
     alloc: Global,
     mode: Mode,
-    stage: Option<Stage>,
+    stage: Option<World>,
     flows: bool,
 }
 
@@ -71,13 +71,13 @@ impl Player {
         ensures mode { self.new.mode ≡ self.old.mode }
         ensures whole { result ≢ Ok step.More }
     {
-        if is_comment(line) {
-            return Ok(LineStep::Done);
-        }
-        let Some(setup) = parse_setup(line) else {
-            return Ok(LineStep::Outside);
+        let setup = match parse_line(None, line) {
+            Some(Line::Setup(setup)) => setup,
+            Some(Line::Nothing) => return Ok(LineStep::Done),
+            Some(Line::Event(_)) => return Ok(LineStep::Outside),
+            None => return Ok(LineStep::Outside),
         };
-        self.stage = Some(Stage::new(self.alloc, setup)?);
+        self.stage = Some(World::new(self.alloc, setup)?);
         Ok(LineStep::Done)
     }
 

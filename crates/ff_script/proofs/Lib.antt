@@ -1,4 +1,3 @@
 pub mod PieceLemmas
 pub mod Spelling
-pub mod ScriptWords
 pub mod Pairs

@@ -6,5 +6,5 @@ mod line;
 mod pieces;
 
 pub use digits::Digits;
-pub use line::{Event, Line, Setup, parse_line};
+pub use line::{BareEvent, parse_bare_event};
 pub use pieces::{PieceList, cut, decimal_at};

@@ -50,7 +50,7 @@ occurs old event new fresh within now = record {
 
 -- the world where an event has changed its server
 abbrev pub with_server : WorldValue → ServerState → WorldValue
-with_server old server = record { world = record { setup = old.world.setup; server = server; sent = old.world.sent; journal = old.world.journal }; spent = old.spent }
+with_server old server = record { world = record { server = server; sent = old.world.sent; journal = old.world.journal }; spent = old.spent }
 
 -- What adding the entries of an event came to.
 pub entered : (old mid new : WorldValue) (event : EventValue) (sent : ℕ) (entries : List Entry) (r : Result (Unit {0}) WorldFault) → mid ≡ with_server old (effect_of old.world event).server
@@ -61,7 +61,7 @@ entered old mid new event sent entries r is many are enters = by_result r (subst
     moved = with_server old (effect_of old.world event).server
 
     kept : new ≡ moved → KeepsJournal old.world new.world × (new.spent ≡ old.spent)
-    kept same = (record { setup = ap (λ (v : WorldValue). v.world.setup) same; journal = ap (λ (v : WorldValue). v.world.journal) same }, ap (λ (v : WorldValue). v.spent) same)
+    kept same = (record { journal = ap (λ (v : WorldValue). v.world.journal) same }, ap (λ (v : WorldValue). v.spent) same)
 
     by_result : (r : Result (Unit {0}) WorldFault) → Enters moved sent entries r new → Happens old.world event r new.world × (new.spent ≡ old.spent)
     by_result (Ok x) e = (

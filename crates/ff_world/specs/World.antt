@@ -1,8 +1,6 @@
 -- The world of a script: its machines, the packets between them, and the journal. Of a bare script it has one data server, and
 -- records come to it from client 0. One event is one delivery.
 use Rattle.std.specs.Prelude.{◌≡◌, ℕ, ◌+◌, ◌≤◌, Bool, true, false, ◌==◌, if◌then◌else◌, List, [], ◌∷◌, ◌++◌, length, Option, Some, None, Result, Ok, Err}
-use Rattle.ff_script.specs.declared.line.Setup.{Setup}
-use Rattle.ff_script.specs.declared.line.Setup.TheVariants.{Bare}
 use Rattle.cluster_model.specs.declared.ids.NodeId.{NodeId}
 use Rattle.cluster_model.specs.declared.ids.NodeId.TheVariants.{Server, Client}
 use Rattle.cluster_model.specs.declared.entry.Entry.{Entry}
@@ -19,24 +17,19 @@ use Rattle.world_journal.specs.SentPackets.{packets_of}
 
 -- ---- the world
 
--- The setup that the script has chosen, the data server, how many packets were sent so far, and the journal.
+-- The data server, how many packets were sent so far, and the journal.
 pub record WorldState : Type 0 where
-  pub setup : Setup
   pub server : ServerState
   pub sent : ℕ
   pub journal : List Entry
 
--- the world of a setup, before any event
-abbrev pub preset_world : Setup → WorldState
-preset_world Bare = record { setup = Bare; server = preset_server; sent = 0; journal = [] }
+-- before any event
+abbrev pub preset_world : WorldState
+preset_world = record { server = preset_server; sent = 0; journal = [] }
 
--- a setup has a data server of this number
-abbrev pub setup_has_server : Setup → ℕ → Bool
-setup_has_server Bare number = number == 1
-
--- the data server of a number, where the setup has one
+-- the data server of a number, where it is the one
 abbrev pub server_at : WorldState → ℕ → Option ServerState
-server_at w number = if setup_has_server w.setup number then Some w.server else None
+server_at w number = if number == 1 then Some w.server else None
 
 -- ---- what an event does
 
@@ -78,7 +71,7 @@ effect_of w _ = no_effect w
 
 -- the world afterwards: the entries stand behind those of the journal
 abbrev pub world_after : WorldState → WorldEffect → WorldState
-world_after w effect = record { setup = w.setup; server = effect.server; sent = effect.sent; journal = w.journal ++ effect.entries }
+world_after w effect = record { server = effect.server; sent = effect.sent; journal = w.journal ++ effect.entries }
 
 -- what an event leaves, and the entries that it adds to the journal
 pub record WorldStep : Type 0 where
@@ -124,9 +117,8 @@ pub record IsSound (packets : ℕ) (journal : List Entry) : Type 0 where
   pub count : length journal ≤ max_entries
   pub within : is_within journal ≡ true
 
--- the setup and the journal are as before
+-- the journal is as before
 pub record KeepsJournal (old new : WorldState) : Type 0 where
-  pub setup : new.setup ≡ old.setup
   pub journal : new.journal ≡ old.journal
 
 -- The event happened, and its entries stand behind those of the journal.
@@ -158,7 +150,7 @@ Happens old event (Err NoMemory) new = KeepsJournal old new
 -- these entries stand behind those of the journal, and so many packets were sent
 abbrev pub with_journaled : WorldValue → ℕ → List Entry → WorldValue
 with_journaled old sent entries = record {
-  world = record { setup = old.world.setup; server = old.world.server; sent = sent; journal = old.world.journal ++ entries };
+  world = record { server = old.world.server; sent = sent; journal = old.world.journal ++ entries };
   spent = old.spent;
 }
 

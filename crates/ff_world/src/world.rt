@@ -1,4 +1,4 @@
-//! The world of a script.
+//! The world of one data server.
 
 ghost use Rattle.std.specs.Prelude.{◌≡◌, ◌+◌, ◌<◌, ◌≤◌, ◌^◌, [], ◌∷◌, IfOk, Err, Some, None, length, option_copied};
 ghost use Rattle.world_journal.specs.Journal.{IsJournalInRange};
@@ -9,7 +9,7 @@ ghost use Rattle.ff_world.specs.World.{preset_world, server_at, deliver_entries,
 
 use cluster_model::{Entry, NodeId, Outbox, Pieces};
 use ds_files::{DataServer, RestartFault};
-use ff_script::{Event, Setup};
+use ff_script::BareEvent;
 use ff_xdr::{Data, NoMemory};
 use std::alloc::Global;
 use std::marker::Model;
@@ -24,24 +24,23 @@ const NUMBER: u32 = 1;
 /// The data server of a bare script.
 const SERVER: NodeId = NodeId::Server(NUMBER);
 
-/// The machines of a script, how many packets were sent so far, and the journal. A world is spent once
+/// One data server, how many packets were sent so far, and the journal. A world is spent once
 /// an event did not happen.
 #[derive(Drop)]
-pub struct World {
+pub struct BareWorld {
     alloc: Global,
-    setup: Setup,
     server: DataServer,
     sent: u64,
     journal: Journal,
     spent: Option<WorldFault>,
 }
 
-impl Model for World {
+impl Model for BareWorld {
     ghost use Rattle.ff_world.specs.World.{WorldValue, IsSound};
 
     ghost Value = { WorldValue };
 
-    ghost view = { λ w. record { world = record { setup = w.setup; server = w.server; sent = w.sent; journal = w.journal }; spent = w.spent } };
+    ghost view = { λ w. record { world = record { server = w.server; sent = w.sent; journal = w.journal }; spent = w.spent } };
 
     ghost invariant = { λ w. IsSound w.sent w.journal };
 }
@@ -81,38 +80,25 @@ fn one_entry(alloc: Global, entry: Entry) -> Result<Vec<Entry>, NoMemory>
     Ok(added)
 }
 
-impl World {
-    /// The world of a setup, before any event.
-    pub fn new(alloc: Global, setup: Setup) -> Result<World, NoMemory>
-        ensures { IfOk result (λ world. world ≡ record { world = preset_world setup; spent = None }) }
+impl BareWorld {
+    /// Before any event. Takes memory.
+    pub fn new(alloc: Global) -> Result<BareWorld, NoMemory>
+        ensures { IfOk result (λ world. world ≡ record { world = preset_world; spent = None }) }
     {
-        let server = match setup {
-            Setup::Bare => DataServer::preset(alloc)?,
-        };
-        Ok(World {
+        Ok(BareWorld {
             alloc,
-            setup,
-            server,
+            server: DataServer::preset(alloc)?,
             sent: 0,
             journal: Journal::new(alloc),
             spent: None,
         })
     }
 
-    /// The setup.
-    pub fn setup(&self) -> Setup
-        ensures { result ≡ self.now.world.setup }
-    {
-        self.setup
-    }
-
-    /// The data server of a number, where the setup has one.
+    /// The data server, where it has this number.
     pub fn server(&self, number: u32) -> Option<&DataServer>
         ensures { option_copied result ≡ server_at self.now.world number }
     {
-        match self.setup {
-            Setup::Bare => (number == NUMBER).then_some(&self.server),
-        }
+        (number == NUMBER).then_some(&self.server)
     }
 
     /// The journal: the entries of all events that happened, in order.
@@ -132,7 +118,7 @@ impl World {
 
     /// Lets an event happen, and adds its entries to the journal. At an error the journal is as before,
     /// and the world is spent: it answers each event by that error, and nothing changes.
-    pub fn step(&mut self, event: &Event<'_>) -> Result<(), WorldFault>
+    pub fn step(&mut self, event: &BareEvent<'_>) -> Result<(), WorldFault>
         ensures meets { self.old.spent ≡ None → Meets self.old.world (event_value event.now) result self.new }
         ensures spent { (fault : WorldFault) → self.old.spent ≡ Some fault → (result ≡ Err fault) × (self.new ≡ self.old) }
     {
@@ -147,16 +133,16 @@ impl World {
     }
 
     /// Lets an event happen in a world that is not spent. At an error the world is not to be used again.
-    fn happen(&mut self, event: &Event<'_>) -> Result<(), WorldFault>
+    fn happen(&mut self, event: &BareEvent<'_>) -> Result<(), WorldFault>
         ensures happens { Happens self.old.world (event_value event.now) result self.new.world }
         ensures spent { self.new.spent ≡ self.old.spent }
     {
         match event {
-            Event::Deliver(digits) => {
+            BareEvent::Deliver(digits) => {
                 let bytes = digits.decode(self.alloc)?;
                 self.deliver(Data::from_vec(bytes))
             }
-            Event::Restart(pieces) => {
+            BareEvent::Restart(pieces) => {
                 let pieces = pieces.decode(self.alloc)?;
                 self.restart(Pieces::from_vec(pieces))
             }

@@ -7,7 +7,6 @@ use Rattle.cluster_script.specs.declared.sizes.ClusterSizes.{ClusterSizes}
 use Rattle.world_rule.specs.ClusterWorlds.{ClusterState, packets, new_cluster, behind, cluster_step}
 use Rattle.world_rule.specs.ClusterRuns.{cluster_run}
 use Rattle.world_journal.specs.Journal.{is_within, IsJournalInRange}
-use Rattle.ff_script.specs.declared.line.Setup.TheVariants as bare_setup
 use Rattle.ff_world.specs.World.{WorldState, WorldStep, preset_world, world_step}
 use Rattle.ff_replay.specs.declared.setup.Setup.{Setup}
 use Rattle.ff_replay.specs.declared.setup.Setup.TheVariants.{Bare, Cluster}
@@ -33,7 +32,7 @@ module _ (IsRun : ℕ → ClusterState → Type 0) (starts : (servers mirrors cl
     ends : (w : ClusterState) → end_in setup events ≡ Some w → EndsTrue (run_in (world_in None setup) events).entries w
 
   bare_obeys : (events : List EventValue) → JournalObeys (run_in (world_in None (Some Bare)) events).entries
-  bare_obeys events = plain_obeys _ (run_plain events (preset_world bare_setup.Bare))
+  bare_obeys events = plain_obeys _ (run_plain events preset_world)
 
   cluster_obeys : (sizes : ClusterSizes) (events : List EventValue) → AreInRange events → AreSizes sizes → Obeys (Some (Cluster sizes)) events
   cluster_obeys sizes events fits are =
