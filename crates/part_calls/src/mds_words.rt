@@ -3,7 +3,7 @@
 use client_mds_calls::{FailedMirror, MdsCall, OpenFile, SlotCall};
 use cluster_model::FileId;
 use nfs4_types::{SessionId, Stateid};
-use row_words::{RowFault, Words, number32};
+use row_words::{RowFault, Words};
 use std::alloc::Global;
 
 /// What a call lends its name, its bytes and its lists from.
@@ -27,122 +27,139 @@ impl Lent {
     }
 
     /// Data servers, with commas between them.
-    fn read_servers(&mut self, word: &str) -> Result<(), RowFault> {
-        if word == "-" {
-            return Ok(());
+    fn read_servers(&mut self, words: &mut Words<'_>) {
+        if words.is_none() {
+            return;
         }
-        for digits in word.split(',') {
-            self.servers.push(number32(digits)?)?;
+        for digits in words.word().split(',') {
+            if self.servers.push(words.in32(digits)).is_err() {
+                words.note(RowFault::NoMemory);
+            }
         }
-        Ok(())
     }
 
-    /// `3:5`, the data server and the status of each mirror that failed, with commas between them.
-    fn read_failed(&mut self, word: &str) -> Result<(), RowFault> {
-        if word == "-" {
-            return Ok(());
+    /// The data server and the status of each mirror that failed, with commas between them.
+    fn read_failed(&mut self, words: &mut Words<'_>) {
+        if words.is_none() {
+            return;
         }
-        for item in word.split(',') {
-            let (server, status) = item.split_once(":").ok_or(RowFault::Outside)?;
-            self.failed.push(FailedMirror {
-                server: number32(server)?,
-                status: number32(status)?,
-            })?;
+        for text in words.word().split(',') {
+            let mut item = Words::of(words.alloc(), text);
+            if self.failed.push(failed_mirror(&mut item)).is_err() {
+                words.note(RowFault::NoMemory);
+            }
+            words.behind(item);
         }
-        Ok(())
+    }
+
+    /// The name of a file.
+    fn read_name(&mut self, words: &mut Words<'_>) {
+        if self.name.push_str(words.word()).is_err() {
+            words.note(RowFault::NoMemory);
+        }
+    }
+}
+
+/// `3:5`: a mirror that failed.
+fn failed_mirror(words: &mut Words<'_>) -> FailedMirror {
+    FailedMirror {
+        server: words.number32_before(":"),
+        status: words.number32(),
     }
 }
 
 /// A stateid: how often it changed, and which state it is.
-fn stateid(words: &mut Words<'_>) -> Result<Stateid, RowFault> {
-    Ok(Stateid {
-        seqid: words.number32()?,
-        other: words.sized::<12>()?,
-    })
+fn stateid(words: &mut Words<'_>) -> Stateid {
+    Stateid {
+        seqid: words.number32(),
+        other: words.sized::<12>(),
+    }
 }
 
 /// A file and the stateid of its open.
-fn open_file(words: &mut Words<'_>) -> Result<OpenFile, RowFault> {
-    Ok(OpenFile {
-        file: FileId(words.number32()?),
-        stateid: stateid(words)?,
-    })
+fn open_file(words: &mut Words<'_>) -> OpenFile {
+    OpenFile {
+        file: FileId(words.number32()),
+        stateid: stateid(words),
+    }
 }
 
-/// What a request on a slot writes or reads.
-fn data_call<'b>(
-    kind: &str,
-    words: &mut Words<'_>,
-    lent: &'b mut Lent,
-) -> Result<SlotCall<'b>, RowFault> {
-    let file = open_file(words)?;
-    let at = words.number64()?;
-    if kind == "read" {
-        let count = words.number32()?;
-        return Ok(SlotCall::Read { file, at, count });
-    }
-    lent.bytes = words.bytes()?;
-    Ok(SlotCall::Write {
+/// A write of a request on a slot.
+fn write_call<'b>(words: &mut Words<'_>, lent: &'b mut Lent) -> SlotCall<'b> {
+    let file = open_file(words);
+    let at = words.number64();
+    lent.bytes = words.bytes();
+    SlotCall::Write {
         file,
         at,
         bytes: lent.bytes.as_slice(),
-    })
+    }
+}
+
+/// An open of a file.
+fn open_call<'b>(words: &mut Words<'_>, lent: &'b mut Lent) -> SlotCall<'b> {
+    lent.read_name(words);
+    SlotCall::Open {
+        name: lent.name.as_str(),
+    }
+}
+
+/// A wish for the addresses of devices.
+fn device_info<'b>(words: &mut Words<'_>, lent: &'b mut Lent) -> SlotCall<'b> {
+    lent.read_servers(words);
+    SlotCall::DeviceInfo {
+        servers: lent.servers.as_slice(),
+    }
 }
 
 /// A layout that is given back.
-fn layout_return<'b>(words: &mut Words<'_>, lent: &'b mut Lent) -> Result<SlotCall<'b>, RowFault> {
-    let file = FileId(words.number32()?);
-    let stateid = stateid(words)?;
-    lent.read_failed(words.word()?)?;
-    Ok(SlotCall::LayoutReturn {
+fn layout_return<'b>(words: &mut Words<'_>, lent: &'b mut Lent) -> SlotCall<'b> {
+    let file = FileId(words.number32());
+    let stateid = stateid(words);
+    lent.read_failed(words);
+    SlotCall::LayoutReturn {
         file,
         stateid,
         failed: lent.failed.as_slice(),
-    })
+    }
 }
 
 /// A request on a slot.
-fn slot_call<'b>(words: &mut Words<'_>, lent: &'b mut Lent) -> Result<SlotCall<'b>, RowFault> {
-    let kind = words.word()?;
-    match kind {
-        "reclaim_complete" => Ok(SlotCall::ReclaimComplete),
-        "open" => {
-            lent.name.push_str(words.word()?)?;
-            Ok(SlotCall::Open {
-                name: lent.name.as_str(),
-            })
-        }
-        "layout_get" => Ok(SlotCall::LayoutGet {
-            file: open_file(words)?,
-        }),
-        "device_info" => {
-            lent.read_servers(words.word()?)?;
-            Ok(SlotCall::DeviceInfo {
-                servers: lent.servers.as_slice(),
-            })
-        }
-        "write" | "read" => data_call(kind, words, lent),
+fn slot_call<'b>(words: &mut Words<'_>, lent: &'b mut Lent) -> SlotCall<'b> {
+    match words.word() {
+        "reclaim_complete" => SlotCall::ReclaimComplete,
+        "open" => open_call(words, lent),
+        "layout_get" => SlotCall::LayoutGet {
+            file: open_file(words),
+        },
+        "device_info" => device_info(words, lent),
+        "write" => write_call(words, lent),
+        "read" => SlotCall::Read {
+            file: open_file(words),
+            at: words.number64(),
+            count: words.number32(),
+        },
         "layout_return" => layout_return(words, lent),
-        "renew" => Ok(SlotCall::Renew),
-        _ => Err(RowFault::Outside),
+        "renew" => SlotCall::Renew,
+        _ => words.outside(SlotCall::Renew),
     }
 }
 
 /// A call, whose name, bytes and lists are put into what it lends them from.
-pub fn mds_call<'b>(words: &mut Words<'_>, lent: &'b mut Lent) -> Result<MdsCall<'b>, RowFault> {
-    match words.word()? {
-        "exchange_id" => Ok(MdsCall::ExchangeId {
-            verifier: words.number64()?,
-        }),
-        "create_session" => Ok(MdsCall::CreateSession {
-            clientid: words.number64()?,
-            sequence: words.number32()?,
-        }),
-        "slot" => Ok(MdsCall::OnSlot {
-            session: SessionId(words.sized::<16>()?),
-            sequence: words.number32()?,
-            call: slot_call(words, lent)?,
-        }),
-        _ => Err(RowFault::Outside),
+pub fn mds_call<'b>(words: &mut Words<'_>, lent: &'b mut Lent) -> MdsCall<'b> {
+    match words.word() {
+        "exchange_id" => MdsCall::ExchangeId {
+            verifier: words.number64(),
+        },
+        "create_session" => MdsCall::CreateSession {
+            clientid: words.number64(),
+            sequence: words.number32(),
+        },
+        "slot" => MdsCall::OnSlot {
+            session: SessionId(words.sized::<16>()),
+            sequence: words.number32(),
+            call: slot_call(words, lent),
+        },
+        _ => words.outside(MdsCall::ExchangeId { verifier: 0 }),
     }
 }

@@ -11,7 +11,7 @@ use crate::mirrors::{
     read_owner, read_swapped,
 };
 use cluster_model::Entry;
-use row_words::{RowFault, Words};
+use row_words::Words;
 
 /// A kind of entry.
 #[derive(Clone, Copy)]
@@ -75,17 +75,17 @@ const KINDS: [(&str, Kind); 26] = [
 ];
 
 /// The kind with this word.
-fn kind_named(word: &str) -> Result<Kind, RowFault> {
+fn kind_named(word: &str) -> Option<Kind> {
     for (name, kind) in KINDS {
         if name == word {
-            return Ok(kind);
+            return Some(kind);
         }
     }
-    Err(RowFault::Outside)
+    None
 }
 
 /// The entry of this kind, of which the words say the rest.
-fn read_rest(kind: Kind, words: &mut Words<'_>) -> Result<Entry, RowFault> {
+fn read_rest(kind: Kind, words: &mut Words<'_>) -> Entry {
     match kind {
         Kind::Packet => read_packet(words),
         Kind::Delivered => read_delivered(words),
@@ -116,8 +116,10 @@ fn read_rest(kind: Kind, words: &mut Words<'_>) -> Result<Entry, RowFault> {
     }
 }
 
-/// The entry that a line of the trace says.
-pub fn read_entry(words: &mut Words<'_>) -> Result<Entry, RowFault> {
-    let kind = kind_named(words.word()?)?;
-    read_rest(kind, words)
+/// The entry that a line of the trace says, where its kind is one.
+pub fn read_entry(words: &mut Words<'_>) -> Option<Entry> {
+    match kind_named(words.word()) {
+        Some(kind) => Some(read_rest(kind, words)),
+        None => None,
+    }
 }

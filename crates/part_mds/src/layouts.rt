@@ -10,104 +10,119 @@ use mds_refusals::{
     try_layout_return, try_layout_return_all,
 };
 use nfs4_file_ops::LayoutGetArgs;
-use nfs4_types::Stateid;
-use row_words::{Answer, RowFault, Words};
+use nfs4_types::{Stat4, Stateid};
+use row_words::{Answer, Words};
 
 /// Why a file is not granted.
-fn fault(words: &mut Words<'_>) -> Result<Option<GrantFault>, RowFault> {
-    match words.word()? {
-        "-" => Ok(None),
-        "later" => Ok(Some(GrantFault::Later(Phase::Held))),
-        "recalling" => Ok(Some(GrantFault::Recalling)),
-        "spent" => Ok(Some(GrantFault::Spent)),
-        _ => Err(RowFault::Outside),
+fn fault(words: &mut Words<'_>) -> Option<GrantFault> {
+    match words.word() {
+        "-" => None,
+        "later" => Some(GrantFault::Later(Phase::Held)),
+        "recalling" => Some(GrantFault::Recalling),
+        "spent" => Some(GrantFault::Spent),
+        _ => words.outside(None),
     }
 }
 
 /// LAYOUTGET.
-fn put_layout_get(words: &mut Words<'_>, answer: &mut Answer) -> Result<(), RowFault> {
-    let at = current(words)?;
+fn put_layout_get(words: &mut Words<'_>, answer: &mut Answer) {
+    let at = current(words);
     let args = LayoutGetArgs {
         signal: false,
-        layout_type: words.number32()?,
-        iomode: words.number32()?,
+        layout_type: words.number32(),
+        iomode: words.number32(),
         offset: 0,
-        length: words.number64()?,
-        minlength: words.number64()?,
+        length: words.number64(),
+        minlength: words.number64(),
         stateid: Stateid {
             seqid: 0,
             other: [0; 12],
         },
-        maxcount: words.number32()?,
+        maxcount: words.number32(),
     };
     let found = LayoutGetFound {
-        named: named(words)?,
-        fault: fault(words)?,
-        size: words.number32()?,
+        named: named(words),
+        fault: fault(words),
+        size: words.number32(),
     };
-    words.end()?;
-    put_file(try_layout_get(at, args, found), answer)
+    if words.end() {
+        put_file(try_layout_get(at, args, found), answer);
+    }
 }
 
 /// LAYOUTRETURN of a file.
-fn put_layout_return(words: &mut Words<'_>, answer: &mut Answer) -> Result<(), RowFault> {
-    let at = current(words)?;
+fn put_layout_return(words: &mut Words<'_>, answer: &mut Answer) {
+    let at = current(words);
     let asked = FileReturn {
-        layout_type: words.number32()?,
-        reclaim: words.flag()?,
-        offset: words.number64()?,
-        length: words.number64()?,
-        has_body: words.flag()?,
-        named: named(words)?,
+        layout_type: words.number32(),
+        reclaim: words.flag(),
+        offset: words.number64(),
+        length: words.number64(),
+        has_body: words.flag(),
+        named: named(words),
     };
-    words.end()?;
-    put_file(try_layout_return(at, asked), answer)
+    if words.end() {
+        put_file(try_layout_return(at, asked), answer);
+    }
 }
 
-/// LAYOUTRETURN of all files.
-fn put_layout_return_all(words: &mut Words<'_>, answer: &mut Answer) -> Result<(), RowFault> {
-    let layout_type = words.number32()?;
-    let reclaim = words.flag()?;
-    words.end()?;
-    match try_layout_return_all(layout_type, reclaim) {
+/// Whether an operation that is done to no file is done.
+fn put_done(done: Result<(), Stat4>, answer: &mut Answer) {
+    match done {
         Ok(()) => answer.word("Ok"),
         Err(status) => put_refusal(status, answer),
     }
 }
 
-/// LAYOUTCOMMIT.
-fn put_layout_commit(words: &mut Words<'_>, answer: &mut Answer) -> Result<(), RowFault> {
-    let at = current(words)?;
-    let named = named(words)?;
-    words.end()?;
-    put_file(try_layout_commit(at, named), answer)
+/// LAYOUTRETURN of all files.
+fn put_layout_return_all(words: &mut Words<'_>, answer: &mut Answer) {
+    let layout_type = words.number32();
+    let reclaim = words.flag();
+    if words.end() {
+        put_done(try_layout_return_all(layout_type, reclaim), answer);
+    }
 }
 
-/// GETDEVICEINFO.
-fn put_get_device_info(words: &mut Words<'_>, answer: &mut Answer) -> Result<(), RowFault> {
-    let layout_type = words.number32()?;
-    let is_known = words.flag()?;
-    let maxcount = words.number32()?;
-    let size = words.last_number32()?;
-    match try_get_device_info(layout_type, is_known, maxcount, size) {
+/// LAYOUTCOMMIT.
+fn put_layout_commit(words: &mut Words<'_>, answer: &mut Answer) {
+    let at = current(words);
+    let named = named(words);
+    if words.end() {
+        put_file(try_layout_commit(at, named), answer);
+    }
+}
+
+/// What a GETDEVICEINFO is answered with.
+fn put_info(info: Result<DeviceInfo, Stat4>, answer: &mut Answer) {
+    match info {
         Ok(DeviceInfo::Address) => answer.word("Address"),
         Ok(DeviceInfo::Empty) => answer.word("Empty"),
         Err(status) => put_refusal(status, answer),
     }
 }
 
+/// GETDEVICEINFO.
+fn put_get_device_info(words: &mut Words<'_>, answer: &mut Answer) {
+    let layout_type = words.number32();
+    let is_known = words.flag();
+    let maxcount = words.number32();
+    let size = words.number32();
+    if words.end() {
+        put_info(
+            try_get_device_info(layout_type, is_known, maxcount, size),
+            answer,
+        );
+    }
+}
+
 /// Makes the call of this name.
-pub fn put_layout_call(
-    name: &str,
-    words: &mut Words<'_>,
-    answer: &mut Answer,
-) -> Result<(), RowFault> {
+pub fn put_layout_call(name: &str, words: &mut Words<'_>, answer: &mut Answer) {
     match name {
         "layout_get" => put_layout_get(words, answer),
         "layout_return" => put_layout_return(words, answer),
         "layout_return_all" => put_layout_return_all(words, answer),
         "layout_commit" => put_layout_commit(words, answer),
         "get_device_info" => put_get_device_info(words, answer),
-        _ => Err(RowFault::Outside),
+        _ => answer.refuse(),
     }
 }

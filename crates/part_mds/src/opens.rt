@@ -5,7 +5,7 @@
 use crate::said::{put_stateid, stateid};
 use cluster_model::FileId;
 use open_state::{Open, OpenFault, Opens};
-use row_words::{Answer, Part, RowFault, Words};
+use row_words::{Answer, Part, Words};
 
 /// What clients have open.
 #[derive(Drop)]
@@ -21,27 +21,20 @@ impl OpensRows {
 }
 
 /// A client and a file.
-fn client_and_file(words: &mut Words<'_>) -> Result<(u64, FileId), RowFault> {
-    Ok((words.number64()?, FileId(words.number32()?)))
-}
-
-/// A client and a file that are the line's last words.
-fn last_client_and_file(words: &mut Words<'_>) -> Result<(u64, FileId), RowFault> {
-    let pair = client_and_file(words)?;
-    words.end()?;
-    Ok(pair)
+fn client_and_file(words: &mut Words<'_>) -> (u64, FileId) {
+    (words.number64(), FileId(words.number32()))
 }
 
 /// An open.
-fn put_open(one: Open, answer: &mut Answer) -> Result<(), RowFault> {
-    answer.number(u64::from(one.file.0))?;
-    answer.number(u64::from(one.number))?;
-    answer.number(u64::from(one.seqid))?;
-    put_stateid(one.stateid(), answer)
+fn put_open(one: Open, answer: &mut Answer) {
+    answer.number32(one.file.0);
+    answer.number32(one.number);
+    answer.number32(one.seqid);
+    put_stateid(one.stateid(), answer);
 }
 
 /// An open, or that there is none.
-fn put_found(found: Option<Open>, answer: &mut Answer) -> Result<(), RowFault> {
+fn put_found(found: Option<Open>, answer: &mut Answer) {
     match found {
         None => answer.word("None"),
         Some(one) => put_open(one, answer),
@@ -49,73 +42,84 @@ fn put_found(found: Option<Open>, answer: &mut Answer) -> Result<(), RowFault> {
 }
 
 /// Whether it holds.
-fn put_holds(holds: bool, answer: &mut Answer) -> Result<(), RowFault> {
-    answer.word(if holds { "true" } else { "false" })
+fn put_holds(holds: bool, answer: &mut Answer) {
+    answer.word(if holds { "true" } else { "false" });
 }
 
 /// What an OPEN came to.
-fn put_opened(opened: Result<Open, OpenFault>, answer: &mut Answer) -> Result<(), RowFault> {
+fn put_opened(opened: Result<Open, OpenFault>, answer: &mut Answer) {
     match opened {
         Ok(one) => put_open(one, answer),
         Err(OpenFault::TooMany) => answer.word("TooMany"),
         Err(OpenFault::Spent) => answer.word("Spent"),
-        Err(OpenFault::NoMemory(_)) => Err(RowFault::NoMemory),
+        Err(OpenFault::NoMemory(_)) => answer.want_memory(),
     }
 }
 
 /// Whether a stateid names the open that stands.
-fn put_named(opens: &Opens, words: &mut Words<'_>, answer: &mut Answer) -> Result<(), RowFault> {
-    let (client, file) = client_and_file(words)?;
-    let stateid = stateid(words)?;
-    words.end()?;
-    match opens.open_of(client, file) {
-        None => answer.word("?"),
-        Some(one) => put_holds(one.is_named_by(stateid), answer),
+fn put_named(opens: &Opens, words: &mut Words<'_>, answer: &mut Answer) {
+    let (client, file) = client_and_file(words);
+    let stateid = stateid(words);
+    if words.end() {
+        match opens.open_of(client, file) {
+            None => answer.refuse(),
+            Some(one) => put_holds(one.is_named_by(stateid), answer),
+        }
+    }
+}
+
+/// A client is gone.
+fn put_end(opens: &mut Opens, words: &mut Words<'_>, answer: &mut Answer) {
+    let client = words.number64();
+    if words.end() {
+        opens.end(client);
+        answer.word("Ok");
+    }
+}
+
+/// Makes a call on what a client has open of a file.
+fn put_on_file(opens: &mut Opens, name: &str, words: &mut Words<'_>, answer: &mut Answer) {
+    let (client, file) = client_and_file(words);
+    if !words.end() {
+        return;
+    }
+    match name {
+        "open" => put_opened(opens.open(client, file), answer),
+        "can_open" => put_holds(opens.can_open(client, file), answer),
+        "open_of" => put_found(opens.open_of(client, file), answer),
+        "close" => put_found(opens.close(client, file), answer),
+        _ => answer.refuse(),
     }
 }
 
 /// Makes a call on what clients have open.
-fn put_call(
-    opens: &mut Opens,
-    name: &str,
-    words: &mut Words<'_>,
-    answer: &mut Answer,
-) -> Result<(), RowFault> {
+fn put_call(opens: &mut Opens, name: &str, words: &mut Words<'_>, answer: &mut Answer) {
     match name {
-        "open" => {
-            let (client, file) = last_client_and_file(words)?;
-            put_opened(opens.open(client, file), answer)
-        }
-        "can_open" => {
-            let (client, file) = last_client_and_file(words)?;
-            put_holds(opens.can_open(client, file), answer)
-        }
-        "open_of" => {
-            let (client, file) = last_client_and_file(words)?;
-            put_found(opens.open_of(client, file), answer)
-        }
-        "close" => {
-            let (client, file) = last_client_and_file(words)?;
-            put_found(opens.close(client, file), answer)
-        }
-        "end" => {
-            opens.end(words.last_number64()?);
-            answer.word("Ok")
-        }
+        "end" => put_end(opens, words, answer),
         "is_named_by" => put_named(opens, words, answer),
-        _ => Err(RowFault::Outside),
+        _ => put_on_file(opens, name, words, answer),
+    }
+}
+
+impl OpensRows {
+    /// Nothing is open.
+    fn begin(&mut self, words: &mut Words<'_>, answer: &mut Answer) {
+        if words.end() {
+            self.opens = Some(Opens::new(words.alloc()));
+            answer.word("Ok");
+        }
     }
 }
 
 impl Part for OpensRows {
-    fn call(&mut self, words: &mut Words<'_>, answer: &mut Answer) -> Result<(), RowFault> {
-        let name = words.word()?;
+    fn call(&mut self, words: &mut Words<'_>, answer: &mut Answer) {
+        let name = words.word();
         if name == "new" {
-            words.end()?;
-            self.opens = Some(Opens::new(words.alloc()));
-            return answer.word("Ok");
+            return self.begin(words, answer);
         }
-        let opens = self.opens.as_mut().ok_or(RowFault::Outside)?;
-        put_call(opens, name, words, answer)
+        match &mut self.opens {
+            None => answer.refuse(),
+            Some(opens) => put_call(opens, name, words, answer),
+        }
     }
 }

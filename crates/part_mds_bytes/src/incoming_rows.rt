@@ -4,7 +4,7 @@
 
 use mds_receive::{Incoming, receive_record};
 use nfs4_compound::{Compound, Stop};
-use row_words::{Answer, Part, RowFault, Words};
+use row_words::{Answer, Part, Words};
 use rpc_record::{Reply, ReplyBody};
 
 /// Records that come to the metadata server.
@@ -12,11 +12,11 @@ use rpc_record::{Reply, ReplyBody};
 pub struct MdsReceiveRows;
 
 /// What a reply says.
-fn put_reply(reply: &Reply<'_>, answer: &mut Answer) -> Result<(), RowFault> {
-    answer.word("Reply")?;
-    answer.number(u64::from(reply.xid))?;
-    answer.flag(reply.body.is_denied())?;
-    answer.number(u64::from(reply.body.stat()))?;
+fn put_reply(reply: &Reply<'_>, answer: &mut Answer) {
+    answer.word("Reply");
+    answer.number32(reply.xid);
+    answer.flag(reply.body.is_denied());
+    answer.number32(reply.body.stat());
     match reply.body {
         ReplyBody::Success(results) => answer.bytes(results),
         _ => answer.word("-"),
@@ -24,53 +24,57 @@ fn put_reply(reply: &Reply<'_>, answer: &mut Answer) -> Result<(), RowFault> {
 }
 
 /// What ends the operations of a compound.
-fn put_stop(stop: Stop, answer: &mut Answer) -> Result<(), RowFault> {
+fn put_stop(stop: Stop, answer: &mut Answer) {
     match stop {
         Stop::End(_) => answer.word("End"),
         Stop::Unread(number) => {
-            answer.word("Unread")?;
-            answer.number(u64::from(number))
+            answer.word("Unread");
+            answer.number32(number);
         }
         Stop::Bad(_) => answer.word("Bad"),
     }
 }
 
 /// What stands in a compound.
-fn put_compound(xid: u32, compound: &Compound<'_>, answer: &mut Answer) -> Result<(), RowFault> {
-    answer.word("Compound")?;
-    answer.number(u64::from(xid))?;
-    answer.bytes(compound.tag().as_bytes())?;
-    answer.number(u64::from(compound.minorversion()))?;
-    answer.number(u64::from(compound.count()))?;
-    put_stop(compound.stop(), answer)
+fn put_compound(xid: u32, compound: &Compound<'_>, answer: &mut Answer) {
+    answer.word("Compound");
+    answer.number32(xid);
+    answer.bytes(compound.tag().as_bytes());
+    answer.number32(compound.minorversion());
+    answer.number32(compound.count());
+    put_stop(compound.stop(), answer);
 }
 
 /// What a record is.
-fn put_incoming(incoming: &Incoming<'_>, answer: &mut Answer) -> Result<(), RowFault> {
+fn put_incoming(incoming: &Incoming<'_>, answer: &mut Answer) {
     match incoming {
         Incoming::Nothing => answer.word("Nothing"),
         Incoming::Reply(reply) => put_reply(reply, answer),
         Incoming::Answered(bytes) => {
-            answer.word("Answered")?;
-            answer.bytes(bytes.bytes())
+            answer.word("Answered");
+            answer.bytes(bytes.bytes());
         }
         Incoming::Compound { xid, compound } => put_compound(*xid, compound, answer),
     }
 }
 
 /// `record HEX`: what the record is.
-fn put_record(words: &mut Words<'_>, answer: &mut Answer) -> Result<(), RowFault> {
-    let message = words.bytes()?;
-    words.end()?;
-    let incoming = receive_record(answer.alloc(), message.as_slice())?;
-    put_incoming(&incoming, answer)
+fn put_record(words: &mut Words<'_>, answer: &mut Answer) {
+    let message = words.bytes();
+    if !words.end() {
+        return;
+    }
+    match receive_record(answer.alloc(), message.as_slice()) {
+        Ok(incoming) => put_incoming(&incoming, answer),
+        Err(_) => answer.want_memory(),
+    }
 }
 
 impl Part for MdsReceiveRows {
-    fn call(&mut self, words: &mut Words<'_>, answer: &mut Answer) -> Result<(), RowFault> {
-        match words.word()? {
+    fn call(&mut self, words: &mut Words<'_>, answer: &mut Answer) {
+        match words.word() {
             "record" => put_record(words, answer),
-            _ => Err(RowFault::Outside),
+            _ => answer.refuse(),
         }
     }
 }

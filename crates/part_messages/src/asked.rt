@@ -1,9 +1,13 @@
 //! What a row asks of bytes.
 
+ghost use Rattle.std.specs.Prelude.{◌<◌, ◌^◌, length, map};
+ghost use Rattle.std.specs.Bool.{OnTrue};
+ghost use Rattle.std.specs.List.{AllByRecursion};
+ghost use Rattle.ff_xdr.specs.Form.{Fits};
+
 use crate::show::{put_refusal, put_value};
-use ff_xdr::{Out, Wire, XdrError, XdrWhy};
+use ff_xdr::{Items, Out, Wire, XdrError, XdrWhy};
 use row_words::{Answer, RowFault, Words};
-use std::alloc::Global;
 use std::fmt;
 
 /// What a row asks of bytes.
@@ -15,12 +19,13 @@ pub enum Ask {
     Cut,
 }
 
-/// The bytes that the last word says, and a zero behind them.
-pub fn longer_bytes(words: &mut Words<'_>) -> Result<Vec<u8>, RowFault> {
-    let mut bytes = words.bytes()?;
-    words.end()?;
-    bytes.push(0)?;
-    Ok(bytes)
+/// The bytes that a word says, and a zero behind them.
+pub fn longer_bytes(words: &mut Words<'_>) -> Vec<u8> {
+    let mut bytes = words.bytes();
+    if bytes.push(0).is_err() {
+        words.note(RowFault::NoMemory);
+    }
+    bytes
 }
 
 /// The bytes of a row, without the zero behind them.
@@ -54,7 +59,7 @@ pub fn put_cut<'a, F: Fn(&'a [u8]) -> Option<XdrError>>(
     longer: &'a [u8],
     refusal: F,
     answer: &mut Answer,
-) -> Result<(), RowFault>
+)
     requires { F.IsAlwaysCallable refusal }
 {
     let end = row_bytes(longer).len();
@@ -63,38 +68,44 @@ pub fn put_cut<'a, F: Fn(&'a [u8]) -> Option<XdrError>>(
             return answer.number(count as u64);
         }
     }
-    answer.word("Ok")
+    answer.word("Ok");
 }
 
 /// The value spells these bytes.
-pub fn is_spelled<'a, T: Wire<'a>>(
-    value: &T,
-    bytes: &[u8],
-    alloc: Global,
-) -> Result<bool, RowFault> {
+fn is_spelled<'a, T: Wire<'a>>(value: &T, bytes: &[u8], answer: &mut Answer) -> bool {
     if !value.fits() {
-        return Ok(false);
+        return false;
     }
-    let mut out = Out::new(alloc);
-    value.write(&mut out)?;
-    Ok(out.bytes() == bytes)
+    let mut out = Out::new(answer.alloc());
+    if value.write(&mut out).is_err() {
+        answer.want_memory();
+    }
+    out.bytes() == bytes
+}
+
+/// Each of the values has a spelling.
+pub fn all_fit<'a, T: Wire<'a> + Copy>(values: &'a [T]) -> bool
+    requires { length values.now < 2 ^ 32 }
+    ensures { OnTrue result (AllByRecursion (Fits T.form) (map T.meaning values.now)) }
+{
+    Items::made(values).fits(u32::MAX)
+}
+
+/// The value that bytes are, or why they are none.
+fn put_read<'a, T: Wire<'a> + fmt::Debug>(bytes: &'a [u8], answer: &mut Answer) {
+    match T::from_bytes(bytes) {
+        Ok(value) => {
+            let is_spelled = is_spelled(&value, bytes, answer);
+            put_value(&value, is_spelled, answer);
+        }
+        Err(error) => put_refusal(error, answer),
+    }
 }
 
 /// What is asked of the bytes of a message, behind which a zero stands.
-pub fn put_message<'a, T: Wire<'a> + fmt::Debug>(
-    ask: Ask,
-    longer: &'a [u8],
-    answer: &mut Answer,
-) -> Result<(), RowFault> {
-    if let Ask::Cut = ask {
-        return put_cut(longer, |bytes| T::from_bytes(bytes).err(), answer);
-    }
-    let bytes = row_bytes(longer);
-    match T::from_bytes(bytes) {
-        Ok(value) => {
-            let is_spelled = is_spelled(&value, bytes, answer.alloc())?;
-            put_value(&value, is_spelled, answer)
-        }
-        Err(error) => put_refusal(error, answer),
+pub fn put_message<'a, T: Wire<'a> + fmt::Debug>(ask: Ask, longer: &'a [u8], answer: &mut Answer) {
+    match ask {
+        Ask::Cut => put_cut(longer, |bytes| T::from_bytes(bytes).err(), answer),
+        Ask::Value => put_read::<T>(row_bytes(longer), answer),
     }
 }

@@ -1,12 +1,11 @@
 //! The results of compounds and of callback compounds.
 
-use crate::asked::is_spelled;
-use crate::show::{put_debug, put_refusal};
-use ff_xdr::{Array, Items, Out, Wire};
-use nfs4_compound::{CbRes, MAX_TAG4, OpRes, Tag4, put_cb_results};
+use crate::asked::all_fit;
+use crate::show::put_refusal;
+use ff_xdr::{Array, Out, Wire};
+use nfs4_compound::{CbRes, MAX_TAG4, OpRes, Tag4, put_cb_results, put_results};
 use nfs4_types::Stat4;
-use row_words::{Answer, RowFault};
-use std::alloc::Global;
+use row_words::Answer;
 use std::fmt;
 
 /// The result of a compound (RFC 8881, section 16.2.3).
@@ -16,62 +15,91 @@ type Results<'a> = (Stat4, Tag4<'a>, Array<'a, OpRes<'a>, { u32::MAX }>);
 type CbResults<'a> = (Stat4, Tag4<'a>, Array<'a, CbRes, { u32::MAX }>);
 
 /// A compound's status, tag and results.
-fn put_parts<R: fmt::Debug>(
+fn put_parts<R: fmt::Debug>(status: Stat4, tag: &str, results: &Vec<R>, answer: &mut Answer) {
+    answer.debug(&status);
+    answer.debug(&tag);
+    answer.debug(results);
+    answer.state();
+}
+
+/// Results, one after the other.
+fn listed<'a, R: Wire<'a> + Copy>(
+    results: &Array<'a, R, { u32::MAX }>,
+    answer: &mut Answer,
+) -> Vec<R> {
+    let mut list = Vec::new(answer.alloc());
+    for result in results.items.items() {
+        if list.push(result).is_err() {
+            answer.want_memory();
+        }
+    }
+    list
+}
+
+/// A compound of these results spells these bytes.
+fn is_spelled(
     status: Stat4,
     tag: &str,
-    results: &Vec<R>,
+    results: &[OpRes<'_>],
+    bytes: &[u8],
     answer: &mut Answer,
-) -> Result<(), RowFault> {
-    put_debug(&status, answer)?;
-    put_debug(&tag, answer)?;
-    put_debug(results, answer)?;
-    answer.state()
-}
-
-/// The results of a compound, one after the other.
-fn listed<'a>(
-    alloc: Global,
-    results: &Array<'a, OpRes<'a>, { u32::MAX }>,
-) -> Result<Vec<OpRes<'a>>, RowFault> {
-    let mut list = Vec::new(alloc);
-    for result in results.items.items() {
-        list.push(result)?;
+) -> bool {
+    if tag.len() > MAX_TAG4 as usize || results.len() > u32::MAX as usize {
+        return false;
     }
-    Ok(list)
-}
-
-/// The result of a compound, and whether it spells the bytes again.
-pub fn put_results_row(bytes: &[u8], answer: &mut Answer) -> Result<(), RowFault> {
-    let parts = match Results::from_bytes(bytes) {
-        Ok(parts) => parts,
-        Err(error) => return put_refusal(error, answer),
-    };
-    let is_spelled = is_spelled(&parts, bytes, answer.alloc())?;
-    let (status, tag, results) = parts;
-    let results = listed(answer.alloc(), &results)?;
-    put_parts(status, tag.text, &results, answer)?;
-    answer.flag(is_spelled)
+    if !all_fit(results) {
+        return false;
+    }
+    let mut out = Out::new(answer.alloc());
+    if put_results(status, tag, results, &mut out).is_err() {
+        answer.want_memory();
+    }
+    out.bytes() == bytes
 }
 
 /// The same of a callback compound.
-pub fn put_cb_results_row(bytes: &[u8], answer: &mut Answer) -> Result<(), RowFault> {
-    let (status, tag, listed) = match CbResults::from_bytes(bytes) {
-        Ok(parts) => parts,
-        Err(error) => return put_refusal(error, answer),
-    };
-    let mut results = Vec::new(answer.alloc());
-    for result in listed.items.items() {
-        results.push(result)?;
+fn is_cb_spelled(
+    status: Stat4,
+    tag: &str,
+    results: &[CbRes],
+    bytes: &[u8],
+    answer: &mut Answer,
+) -> bool {
+    if tag.len() > MAX_TAG4 as usize || results.len() > u32::MAX as usize {
+        return false;
     }
-    put_parts(status, tag.text, &results, answer)?;
-    let results = results.as_slice();
-    if tag.text.len() > MAX_TAG4 as usize || results.len() > u32::MAX as usize {
-        return answer.flag(false);
-    }
-    if !Items::made(results).fits(u32::MAX) {
-        return answer.flag(false);
+    if !all_fit(results) {
+        return false;
     }
     let mut out = Out::new(answer.alloc());
-    put_cb_results(status, tag.text, results, &mut out)?;
-    answer.flag(out.bytes() == bytes)
+    if put_cb_results(status, tag, results, &mut out).is_err() {
+        answer.want_memory();
+    }
+    out.bytes() == bytes
+}
+
+/// The result of a compound, and whether it spells the bytes again.
+pub fn put_results_row(bytes: &[u8], answer: &mut Answer) {
+    match Results::from_bytes(bytes) {
+        Ok((status, tag, results)) => {
+            let results = listed(&results, answer);
+            put_parts(status, tag.text, &results, answer);
+            let is_spelled = is_spelled(status, tag.text, &results, bytes, answer);
+            answer.flag(is_spelled);
+        }
+        Err(error) => put_refusal(error, answer),
+    }
+}
+
+/// The same of a callback compound.
+pub fn put_cb_results_row(bytes: &[u8], answer: &mut Answer) {
+    match CbResults::from_bytes(bytes) {
+        Ok((status, tag, results)) => {
+            let results = listed(&results, answer);
+            put_parts(status, tag.text, &results, answer);
+            let is_spelled = is_cb_spelled(status, tag.text, &results, bytes, answer);
+            answer.flag(is_spelled);
+        }
+        Err(error) => put_refusal(error, answer),
+    }
 }

@@ -1,8 +1,7 @@
 //! Going over the operations of a compound.
 
 use nfs4_compound::{CbOp, CbOps, NextOp, Op, Ops, Stop};
-use row_words::RowFault;
-use std::alloc::Global;
+use row_words::Answer;
 
 /// The operations of a compound that are left.
 pub trait Walk<O> {
@@ -34,19 +33,17 @@ impl<'a> Walk<CbOp<'a>> for CbOps<'a> {
 }
 
 /// The operations up to where they stop, at most so many.
-pub fn take_ops<O: Copy, W: Walk<O>>(
-    alloc: Global,
-    count: u32,
-    left: &mut W,
-) -> Result<Vec<O>, RowFault> {
-    let mut ops = Vec::new(alloc);
+pub fn take_ops<O: Copy, W: Walk<O>>(count: u32, left: &mut W, answer: &mut Answer) -> Vec<O> {
+    let mut ops = Vec::new(answer.alloc());
     for _ in 0..count {
-        match left.next_op() {
-            NextOp::Op(op) => ops.push(op)?,
-            _ => return Ok(ops),
+        let NextOp::Op(op) = left.next_op() else {
+            return ops;
+        };
+        if ops.push(op).is_err() {
+            answer.want_memory();
         }
     }
-    Ok(ops)
+    ops
 }
 
 /// Why there is no further operation. `None` where there is one.

@@ -2,10 +2,12 @@
 //! `return`, `record FROM HEX`, `timeout NODE` or `timeout NODE XID`, `tick NOW`, `stray PLACE AT HEX`, `answers`,
 //! `next_xid`. The moment of a record is that of the last tick, 0 before, also over a `new`.
 
-use crate::outbox::{put_outbox, put_user_answer};
-use cluster_model::{Entry, Outbox};
+use crate::mds::named_call;
+use crate::outbox::{put_step, put_user_answer};
+use cluster_model::{Entry, Outbox, UserAnswer};
+use ff_xdr::NoMemory;
 use mirror_client::Client;
-use row_words::{Answer, Part, RowFault, Words};
+use row_words::{Answer, Part, Words};
 use std::alloc::Global;
 
 /// The most bytes of a write.
@@ -34,32 +36,55 @@ impl ClientRows {
         }
     }
 
-    fn make(&mut self, words: &mut Words<'_>) -> Result<(), RowFault> {
-        let number = words.number32()?;
-        let verifier = words.sized::<8>()?;
-        let first_xid = words.last_number32()?;
-        let client = Client::new(self.alloc, number, verifier, first_xid)?;
-        self.client = Some(client);
-        self.number = number;
-        Ok(())
+    /// A client is made.
+    fn begin(&mut self, words: &mut Words<'_>, answer: &mut Answer) {
+        let number = words.number32();
+        let verifier = words.sized::<8>();
+        let first_xid = words.number32();
+        if !words.end() {
+            return;
+        }
+        match Client::new(self.alloc, number, verifier, first_xid) {
+            Err(_) => answer.want_memory(),
+            Ok(client) => {
+                self.client = Some(client);
+                self.number = number;
+                answer.word("Ok");
+            }
+        }
     }
 
     /// The moment of an event: a tick says its own.
-    fn moment(&self, name: &str, words: &mut Words<'_>) -> Result<u64, RowFault> {
+    fn moment(&self, name: &str, words: &mut Words<'_>) -> u64 {
         match name {
-            "tick" => words.last_number64(),
-            _ => Ok(self.now),
+            "tick" => words.number64(),
+            _ => self.now,
+        }
+    }
+
+    /// Asks a client, or hands it an event.
+    fn on_client(&mut self, name: &str, words: &mut Words<'_>, answer: &mut Answer) {
+        let now = self.moment(name, words);
+        let Some(client) = &mut self.client else {
+            return answer.refuse();
+        };
+        if put_asked(client, self.number, name, words, answer) {
+            return;
+        }
+        put_event(client, now, name, words, answer);
+        if words.end() && answer.fault().is_none() {
+            self.now = now;
         }
     }
 }
 
 /// A request for a file of a name that is there and not too long.
-fn open(client: &mut Client, name: &str, out: &mut Outbox) -> Result<(), RowFault> {
+fn open(client: &mut Client, words: &mut Words<'_>, out: &mut Outbox) -> Result<(), NoMemory> {
+    let name = words.rest();
     if name.is_empty() || name.len() > MAX_NAME {
-        return Err(RowFault::Outside);
+        return words.outside(Ok(()));
     }
-    client.open(name, out)?;
-    Ok(())
+    client.open(name, out)
 }
 
 /// A write of the user, through its mirrors or through the metadata server.
@@ -68,32 +93,60 @@ fn write(
     through: bool,
     words: &mut Words<'_>,
     out: &mut Outbox,
-) -> Result<(), RowFault> {
-    let at = words.number64()?;
-    let bytes = words.bytes()?;
-    words.end()?;
+) -> Result<(), NoMemory> {
+    let at = words.number64();
+    let bytes = words.bytes();
     if bytes.is_empty() || bytes.len() > MAX_WRITE {
-        return Err(RowFault::Outside);
+        return words.outside(Ok(()));
+    }
+    if !words.end() {
+        return Ok(());
     }
     if through {
-        client.through(at, &bytes, out)?;
-    } else {
-        client.write(at, &bytes, out)?;
+        return client.through(at, &bytes, out);
     }
-    Ok(())
+    client.write(at, &bytes, out)
 }
 
 /// A client that left writes all the same.
-fn stray(client: &mut Client, words: &mut Words<'_>, out: &mut Outbox) -> Result<(), RowFault> {
-    let place = words.number32()?;
-    let at = words.number64()?;
-    let bytes = words.bytes()?;
-    words.end()?;
+fn stray(client: &mut Client, words: &mut Words<'_>, out: &mut Outbox) -> Result<(), NoMemory> {
+    let place = words.number32();
+    let at = words.number64();
+    let bytes = words.bytes();
     if bytes.len() > MAX_WRITE || !client.has_left() {
-        return Err(RowFault::Outside);
+        return words.outside(Ok(()));
     }
-    client.stray(place, at, &bytes, out)?;
-    Ok(())
+    if !words.end() {
+        return Ok(());
+    }
+    client.stray(place, at, &bytes, out)
+}
+
+/// A read of the user.
+fn read(client: &mut Client, words: &mut Words<'_>, out: &mut Outbox) -> Result<(), NoMemory> {
+    let at = words.number64();
+    let count = words.number32();
+    if !words.end() {
+        return Ok(());
+    }
+    client.read(at, count, out)
+}
+
+/// A commit of the user, or that it gives its layout back.
+fn end_writes(
+    client: &mut Client,
+    name: &str,
+    words: &mut Words<'_>,
+    out: &mut Outbox,
+) -> Result<(), NoMemory> {
+    if !words.end() {
+        return Ok(());
+    }
+    match name {
+        "commit" => client.commit(out),
+        "return" => client.return_all(out),
+        _ => words.outside(Ok(())),
+    }
 }
 
 /// A request of the user.
@@ -102,34 +155,52 @@ fn request(
     name: &str,
     words: &mut Words<'_>,
     out: &mut Outbox,
-) -> Result<(), RowFault> {
+) -> Result<(), NoMemory> {
     match name {
-        "open" => open(client, words.rest(), out)?,
-        "write" => write(client, false, words, out)?,
-        "through" => write(client, true, words, out)?,
-        "commit" => {
-            words.end()?;
-            client.commit(out)?;
-        }
-        "read" => {
-            let at = words.number64()?;
-            client.read(at, words.last_number32()?, out)?;
-        }
-        "return" => {
-            words.end()?;
-            client.return_all(out)?;
-        }
-        _ => return Err(RowFault::Outside),
+        "open" => open(client, words, out),
+        "write" => write(client, false, words, out),
+        "through" => write(client, true, words, out),
+        "read" => read(client, words, out),
+        _ => end_writes(client, name, words, out),
     }
-    Ok(())
 }
 
-/// The number of a call, where the line has one more word.
-fn named_call(words: &mut Words<'_>) -> Result<Option<u32>, RowFault> {
-    if words.end().is_ok() {
-        return Ok(None);
+/// A record comes from a node.
+fn record(
+    client: &mut Client,
+    now: u64,
+    words: &mut Words<'_>,
+    out: &mut Outbox,
+) -> Result<(), NoMemory> {
+    let from = words.node();
+    let record = words.bytes();
+    if !words.end() {
+        return Ok(());
     }
-    Ok(Some(words.last_number32()?))
+    client.on_record(from, &record, now, out)
+}
+
+/// A call to a node times out.
+fn timeout(client: &mut Client, words: &mut Words<'_>, out: &mut Outbox) -> Result<(), NoMemory> {
+    let node = words.node();
+    let xid = named_call(words);
+    if !words.end() {
+        return Ok(());
+    }
+    client.on_timeout(node, xid, out)
+}
+
+/// A tick, whose moment was read.
+fn tick(
+    client: &mut Client,
+    now: u64,
+    words: &mut Words<'_>,
+    out: &mut Outbox,
+) -> Result<(), NoMemory> {
+    if !words.end() {
+        return Ok(());
+    }
+    client.tick(now, out)
 }
 
 /// An event of a client at a moment.
@@ -139,67 +210,79 @@ fn event(
     name: &str,
     words: &mut Words<'_>,
     out: &mut Outbox,
-) -> Result<(), RowFault> {
+) -> Result<(), NoMemory> {
     match name {
-        "record" => {
-            let from = words.node()?;
-            let record = words.bytes()?;
-            words.end()?;
-            client.on_record(from, &record, now, out)?;
-        }
-        "timeout" => {
-            let node = words.node()?;
-            client.on_timeout(node, named_call(words)?, out)?;
-        }
-        "tick" => client.tick(now, out)?,
-        "stray" => stray(client, words, out)?,
-        _ => request(client, name, words, out)?,
+        "record" => record(client, now, words, out),
+        "timeout" => timeout(client, words, out),
+        "tick" => tick(client, now, words, out),
+        "stray" => stray(client, words, out),
+        _ => request(client, name, words, out),
     }
-    Ok(())
+}
+
+/// What comes of an event of a client.
+fn put_event(
+    client: &mut Client,
+    now: u64,
+    name: &str,
+    words: &mut Words<'_>,
+    answer: &mut Answer,
+) {
+    let mut out = Outbox::new(answer.alloc());
+    let step = event(client, now, name, words, &mut out);
+    put_step(step, &out, answer);
 }
 
 /// The oldest answer that the user did not take.
-fn put_oldest(client: &mut Client, number: u32, answer: &mut Answer) -> Result<(), RowFault> {
-    let Some(oldest) = client.answers() else {
-        return answer.word("None");
-    };
-    answer.word("Some")?;
-    let entry = Entry::Answer {
-        client: number,
-        answer: oldest,
-    };
-    put_user_answer(number, &entry, answer)
+fn put_oldest(oldest: Option<UserAnswer>, number: u32, answer: &mut Answer) {
+    match oldest {
+        None => answer.word("None"),
+        Some(oldest) => {
+            let entry = Entry::Answer {
+                client: number,
+                answer: oldest,
+            };
+            answer.word("Some");
+            put_user_answer(number, &entry, answer);
+        }
+    }
+}
+
+/// Asks a client; answers whether the name is that of such a call.
+fn put_asked(
+    client: &mut Client,
+    number: u32,
+    name: &str,
+    words: &mut Words<'_>,
+    answer: &mut Answer,
+) -> bool {
+    if !words.is_empty() {
+        return false;
+    }
+    match name {
+        "turn" => {
+            client.turn();
+            answer.word("Ok");
+            true
+        }
+        "answers" => {
+            put_oldest(client.answers(), number, answer);
+            true
+        }
+        "next_xid" => {
+            answer.number32(client.next_xid());
+            true
+        }
+        _ => false,
+    }
 }
 
 impl Part for ClientRows {
-    fn call(&mut self, words: &mut Words<'_>, answer: &mut Answer) -> Result<(), RowFault> {
-        let name = words.word()?;
+    fn call(&mut self, words: &mut Words<'_>, answer: &mut Answer) {
+        let name = words.word();
         if name == "new" {
-            self.make(words)?;
-            return answer.word("Ok");
+            return self.begin(words, answer);
         }
-        let now = self.moment(name, words)?;
-        let client = self.client.as_mut().ok_or(RowFault::Outside)?;
-        match name {
-            "turn" => {
-                words.end()?;
-                client.turn();
-                answer.word("Ok")
-            }
-            "answers" => {
-                words.end()?;
-                put_oldest(client, self.number, answer)
-            }
-            "next_xid" => {
-                words.end()?;
-                answer.number(u64::from(client.next_xid()))
-            }
-            _ => {
-                let mut out = Outbox::new(self.alloc);
-                event(client, now, name, words, &mut out)?;
-                self.now = now;
-                put_outbox(&out, answer)
-            }
-        }
+        self.on_client(name, words, answer);
     }
 }

@@ -1,5 +1,7 @@
 //! Crashes of a store at each call of its disk.
 
+ghost use Rattle.std.specs.Prelude.{◌<◌};
+
 use cluster_model::{NodeId, Outbox};
 use ds_store::{OpenFault, Store, StoreFault};
 use row_words::{Answer, RowFault, Words};
@@ -13,13 +15,16 @@ const NUMBER: u32 = 1;
 const MOST_CALLS: u64 = 100_000;
 
 /// Records of the metadata server, with commas between them.
-fn read_records(words: &mut Words<'_>) -> Result<Vec<Vec<u8>>, RowFault> {
-    let alloc = words.alloc();
-    let mut records = Vec::new(alloc);
-    for item in words.word()?.split(',') {
-        records.push(Words::of(alloc, item).bytes()?)?;
+fn read_records(words: &mut Words<'_>) -> Vec<Vec<u8>> {
+    let mut records = Vec::new(words.alloc());
+    for text in words.word().split(',') {
+        let mut item = Words::of(words.alloc(), text);
+        if records.push(item.bytes()).is_err() {
+            words.note(RowFault::NoMemory);
+        }
+        words.behind(item);
     }
-    Ok(records)
+    records
 }
 
 /// Hands one record to a store: whether it was answered.
@@ -90,32 +95,66 @@ fn is_kept(left: &[u8], answered: Option<usize>, logs: &[Vec<u8>]) -> bool {
         .any(|log| left.starts_with(log.as_slice()))
 }
 
-/// `crashes CHOICE DISK RECORDS`: a disk of these bytes, of which none lie behind its closed gate, is opened and handed the
-/// records, and stops behind 0 calls, 1 call and so on, until all are answered; each time it crashes by the choice, and what is left is opened again. The answer is how
-/// many times it stopped, and how often it was not opened as the log of the records that were answered, or of one more.
-pub fn put_crashes(words: &mut Words<'_>, answer: &mut Answer) -> Result<(), RowFault> {
-    let alloc = words.alloc();
-    let choice = words.number32()?;
-    let first = words.bytes()?;
-    let records = read_records(words)?;
-    words.end()?;
-    if choice > 3 {
-        return Err(RowFault::Outside);
-    }
-    let logs = logs(alloc, &first, &records)?;
+/// What a disk of these bytes came to, of which each call behind so many fails: what a crash by the choice left, opened
+/// again, and how many of the records were answered.
+fn stopped(
+    alloc: Global,
+    calls: u64,
+    choice: u32,
+    first: &[u8],
+    records: &[Vec<u8>],
+) -> Result<(Vec<u8>, Option<usize>), RowFault>
+    requires { choice < 4 }
+{
+    let mut disk = MemoryDisk::new(alloc, first.to_vec(alloc)?, Vec::new(alloc))?;
+    disk.stop_after(calls);
+    let (disk, answered) = behind(alloc, disk, records)?;
+    let left = opened(alloc, disk.crash(choice)?.bytes())?;
+    Ok((left, answered))
+}
+
+/// How many times a disk of these bytes stops until all records are answered, and how often what is left is not the log
+/// of the records that were answered, or of one more.
+fn counts(
+    alloc: Global,
+    choice: u32,
+    first: &[u8],
+    records: &[Vec<u8>],
+) -> Result<(u64, u64), RowFault>
+    requires { choice < 4 }
+{
+    let logs = logs(alloc, first, records)?;
     let mut lost = 0_u64;
     for calls in 0..MOST_CALLS {
-        let mut disk = MemoryDisk::new(alloc, first.to_vec(alloc)?, Vec::new(alloc))?;
-        disk.stop_after(calls);
-        let (disk, answered) = behind(alloc, disk, &records)?;
-        let left = opened(alloc, disk.crash(choice)?.bytes())?;
+        let (left, answered) = stopped(alloc, calls, choice, first, records)?;
         if !is_kept(&left, answered, &logs) {
             lost = lost.saturating_add(1);
         }
         if answered == Some(records.len()) {
-            answer.number(calls)?;
-            return answer.number(lost);
+            return Ok((calls, lost));
         }
     }
     Err(RowFault::Outside)
+}
+
+/// `crashes CHOICE DISK RECORDS`: a disk of these bytes, of which none lie behind its closed gate, is opened and handed the
+/// records, and stops behind 0 calls, 1 call and so on, until all are answered; each time it crashes by the choice, and what is left is opened again. The answer is how
+/// many times it stopped, and how often it was not opened as the log of the records that were answered, or of one more.
+pub fn put_crashes(words: &mut Words<'_>, answer: &mut Answer) {
+    let choice = words.number32();
+    let first = words.bytes();
+    let records = read_records(words);
+    if choice > 3 {
+        return answer.refuse();
+    }
+    if !words.end() {
+        return;
+    }
+    match counts(answer.alloc(), choice, &first, &records) {
+        Err(fault) => answer.note(fault),
+        Ok((calls, lost)) => {
+            answer.number(calls);
+            answer.number(lost);
+        }
+    }
 }

@@ -10,7 +10,8 @@ use crate::crashes::put_crashes;
 use crate::outbox::put_outbox;
 use cluster_model::Outbox;
 use ds_store::{OpenFault, Store, StoreFault};
-use row_words::{Answer, Part, RowFault, Words, number64};
+use ff_xdr::NoMemory;
+use row_words::{Answer, Part, RowFault, Words};
 use std::alloc::Global;
 use store_disk::MemoryDisk;
 
@@ -23,55 +24,59 @@ pub struct StoreRows {
 }
 
 /// The numbers of the calls that fail.
-fn read_numbers(words: &mut Words<'_>) -> Result<Vec<u64>, RowFault> {
+fn read_numbers(words: &mut Words<'_>) -> Vec<u64> {
     let mut numbers = Vec::new(words.alloc());
-    let word = words.word()?;
-    if word == "-" {
-        return Ok(numbers);
+    if words.is_none() {
+        return numbers;
     }
-    for item in word.split(',') {
-        numbers.push(number64(item)?)?;
+    for digits in words.word().split(',') {
+        if numbers.push(words.in64(digits)).is_err() {
+            words.note(RowFault::NoMemory);
+        }
     }
-    Ok(numbers)
+    numbers
 }
 
 /// Why a call was not done.
-fn put_fault(fault: StoreFault, answer: &mut Answer) -> Result<(), RowFault> {
+fn put_fault(fault: StoreFault, answer: &mut Answer) {
     match fault {
         StoreFault::Disk => answer.word("Disk"),
         StoreFault::Broken => answer.word("Broken"),
-        StoreFault::NoMemory => Err(RowFault::NoMemory),
+        StoreFault::NoMemory => answer.want_memory(),
     }
 }
 
 /// Hands a record to a store.
-fn put_record(
-    store: &mut Store<MemoryDisk>,
-    words: &mut Words<'_>,
-    answer: &mut Answer,
-) -> Result<(), RowFault> {
-    let from = words.node()?;
-    let record = words.bytes()?;
-    words.end()?;
-    let mut out = Outbox::new(words.alloc());
+fn put_record(store: &mut Store<MemoryDisk>, words: &mut Words<'_>, answer: &mut Answer) {
+    let from = words.node();
+    let record = words.bytes();
+    if !words.end() {
+        return;
+    }
+    let mut out = Outbox::new(answer.alloc());
     match store.on_record(from, &record, &mut out) {
         Ok(()) => put_outbox(&out, answer),
         Err(fault) => put_fault(fault, answer),
     }
 }
 
-/// Applies a call to a store.
-fn put_applied(
-    store: &mut Store<MemoryDisk>,
-    words: &mut Words<'_>,
-    answer: &mut Answer,
-) -> Result<(), RowFault> {
-    let record = words.bytes()?;
-    words.end()?;
-    let applied = Applied::read(&record)?;
+/// What comes of a call.
+fn put_applying(store: &mut Store<MemoryDisk>, applied: &Applied<'_>, answer: &mut Answer) {
     match store.apply(&applied.call, &applied.cred) {
         Ok(done) => put_done(&done, answer),
         Err(fault) => put_fault(fault, answer),
+    }
+}
+
+/// Applies a call to a store.
+fn put_applied(store: &mut Store<MemoryDisk>, words: &mut Words<'_>, answer: &mut Answer) {
+    let record = words.bytes();
+    if !words.end() {
+        return;
+    }
+    match Applied::read(&record) {
+        Some(applied) => put_applying(store, &applied, answer),
+        None => answer.refuse(),
     }
 }
 
@@ -85,93 +90,155 @@ impl StoreRows {
         }
     }
 
-    /// Opens the disk.
-    fn open(&mut self, words: &mut Words<'_>, answer: &mut Answer) -> Result<(), RowFault> {
-        let number = words.last_number32()?;
-        let disk = self.disk.take().ok_or(RowFault::Outside)?;
+    /// A disk that was made.
+    fn keep(&mut self, disk: Result<MemoryDisk, NoMemory>, answer: &mut Answer) {
+        match disk {
+            Err(_) => answer.want_memory(),
+            Ok(disk) => {
+                self.disk = Some(disk);
+                answer.word("Ok");
+            }
+        }
+    }
+
+    /// A new disk.
+    fn begin(&mut self, words: &mut Words<'_>, answer: &mut Answer) {
+        let bytes = words.bytes();
+        let failing = read_numbers(words);
+        if words.end() {
+            self.keep(MemoryDisk::new(self.alloc, bytes, failing), answer);
+        }
+    }
+
+    /// A disk that was not opened, and why.
+    fn give_back(&mut self, fault: OpenFault<MemoryDisk>, answer: &mut Answer) {
+        match fault {
+            OpenFault::Disk(disk) => {
+                self.disk = Some(disk);
+                answer.word("Disk");
+            }
+            OpenFault::BadLog { disk, place } => {
+                self.disk = Some(disk);
+                answer.word("BadLog");
+                answer.number(place);
+            }
+            OpenFault::BootsSpent(disk) => {
+                self.disk = Some(disk);
+                answer.word("BootsSpent");
+            }
+            OpenFault::NoMemory(disk) => {
+                self.disk = Some(disk);
+                answer.want_memory();
+            }
+        }
+    }
+
+    /// Opens a disk.
+    fn open_disk(&mut self, number: u32, disk: MemoryDisk, answer: &mut Answer) {
         match Store::open(self.alloc, number, disk) {
             Ok(store) => {
                 self.store = Some(store);
-                answer.word("Ok")
+                answer.word("Ok");
             }
-            Err(OpenFault::Disk(disk)) => {
-                self.disk = Some(disk);
-                answer.word("Disk")
-            }
-            Err(OpenFault::BadLog { disk, place }) => {
-                self.disk = Some(disk);
-                answer.word("BadLog")?;
-                answer.number(place)
-            }
-            Err(OpenFault::BootsSpent(disk)) => {
-                self.disk = Some(disk);
-                answer.word("BootsSpent")
-            }
-            Err(OpenFault::NoMemory(disk)) => {
-                self.disk = Some(disk);
-                Err(RowFault::NoMemory)
-            }
+            Err(fault) => self.give_back(fault, answer),
+        }
+    }
+
+    /// Opens the disk.
+    fn open(&mut self, words: &mut Words<'_>, answer: &mut Answer) {
+        let number = words.number32();
+        if !words.end() {
+            return;
+        }
+        match self.disk.take() {
+            Some(disk) => self.open_disk(number, disk, answer),
+            None => answer.refuse(),
         }
     }
 
     /// Closes the store.
-    fn close(&mut self, words: &mut Words<'_>, answer: &mut Answer) -> Result<(), RowFault> {
-        words.end()?;
-        let store = self.store.take().ok_or(RowFault::Outside)?;
-        self.disk = Some(store.close());
-        answer.word("Ok")
+    fn close(&mut self, words: &mut Words<'_>, answer: &mut Answer) {
+        if !words.end() {
+            return;
+        }
+        match self.store.take() {
+            Some(store) => self.keep(Ok(store.close()), answer),
+            None => answer.refuse(),
+        }
     }
 
     /// Has the disk crash.
-    fn crash(&mut self, words: &mut Words<'_>, answer: &mut Answer) -> Result<(), RowFault> {
-        let choice = words.last_number32()?;
+    fn crash(&mut self, words: &mut Words<'_>, answer: &mut Answer) {
+        let choice = words.number32();
         if choice > 3 {
-            return Err(RowFault::Outside);
+            return answer.refuse();
         }
-        let disk = self.disk.take().ok_or(RowFault::Outside)?;
-        self.disk = Some(disk.crash(choice)?);
-        answer.word("Ok")
+        if !words.end() {
+            return;
+        }
+        match self.disk.take() {
+            Some(disk) => self.keep(disk.crash(choice), answer),
+            None => answer.refuse(),
+        }
     }
 
-    /// A call on a disk.
-    fn on_disk(
-        &mut self,
-        name: &str,
-        words: &mut Words<'_>,
-        answer: &mut Answer,
-    ) -> Result<(), RowFault> {
-        let disk = self.disk.as_mut().ok_or(RowFault::Outside)?;
+    /// What the disk holds.
+    fn put_bytes(&self, words: &mut Words<'_>, answer: &mut Answer) {
+        if !words.end() {
+            return;
+        }
+        match &self.disk {
+            Some(disk) => answer.bytes(disk.bytes()),
+            None => answer.refuse(),
+        }
+    }
+
+    /// Every call of the disk fails behind so many more.
+    fn stop(&mut self, words: &mut Words<'_>, answer: &mut Answer) {
+        let calls = words.number64();
+        if !words.end() {
+            return;
+        }
+        match &mut self.disk {
+            None => answer.refuse(),
+            Some(disk) => {
+                disk.stop_after(calls);
+                answer.word("Ok");
+            }
+        }
+    }
+
+    /// A call on the disk.
+    fn on_disk(&mut self, name: &str, words: &mut Words<'_>, answer: &mut Answer) {
         match name {
-            "bytes" => {
-                words.end()?;
-                answer.bytes(disk.bytes())
-            }
-            "stop" => {
-                disk.stop_after(words.last_number64()?);
-                answer.word("Ok")
-            }
-            _ => Err(RowFault::Outside),
+            "disk" => self.begin(words, answer),
+            "open" => self.open(words, answer),
+            "crash" => self.crash(words, answer),
+            "bytes" => self.put_bytes(words, answer),
+            "stop" => self.stop(words, answer),
+            _ => answer.refuse(),
+        }
+    }
+
+    /// A call on the store.
+    fn on_store(&mut self, name: &str, words: &mut Words<'_>, answer: &mut Answer) {
+        let Some(store) = &mut self.store else {
+            return answer.refuse();
+        };
+        match name {
+            "record" => put_record(store, words, answer),
+            _ => put_applied(store, words, answer),
         }
     }
 }
 
 impl Part for StoreRows {
-    fn call(&mut self, words: &mut Words<'_>, answer: &mut Answer) -> Result<(), RowFault> {
-        let name = words.word()?;
+    fn call(&mut self, words: &mut Words<'_>, answer: &mut Answer) {
+        let name = words.word();
         match name {
-            "disk" => {
-                let bytes = words.bytes()?;
-                let failing = read_numbers(words)?;
-                words.end()?;
-                self.disk = Some(MemoryDisk::new(self.alloc, bytes, failing)?);
-                answer.word("Ok")
-            }
             "crashes" => put_crashes(words, answer),
-            "open" => self.open(words, answer),
             "close" => self.close(words, answer),
-            "crash" => self.crash(words, answer),
-            "record" => put_record(self.store.as_mut().ok_or(RowFault::Outside)?, words, answer),
-            "apply" => put_applied(self.store.as_mut().ok_or(RowFault::Outside)?, words, answer),
+            "record" | "apply" => self.on_store(name, words, answer),
             _ => self.on_disk(name, words, answer),
         }
     }

@@ -43,30 +43,25 @@ fn kind_of(front: &str) -> &str {
 }
 
 /// Holds the lines that came of a file against those that are wanted, and how many there are.
-fn compare_lines<'x>(
-    came: &'x str,
-    wanted: &'x str,
-    outcome: &mut Outcome<'_>,
-) -> Result<(), RowFault> {
+fn compare_lines<'x>(came: &'x str, wanted: &'x str, outcome: &mut Outcome<'_>) {
     for (place, (line, want)) in came.lines().zip(wanted.lines()).enumerate() {
-        outcome.compare(place.saturating_add(1), "a line", want, line)?;
+        outcome.compare(place.saturating_add(1), "a line", want, line);
     }
-    if came.lines().count() == wanted.lines().count() {
-        return Ok(());
+    if came.lines().count() != wanted.lines().count() {
+        outcome.compare(0, "as many lines", "as are wanted", "others");
     }
-    outcome.compare(0, "as many lines", "as are wanted", "others")
 }
 
 /// How the lines that came of a file compare with those that are wanted.
 fn compared<'a>(
     alloc: Global,
     file: &'a str,
-    came: &[u8],
+    came: Result<Vec<u8>, RowFault>,
     wanted: &str,
 ) -> Result<Outcome<'a>, RowFault> {
     let mut outcome = Outcome::new(alloc, file);
-    let came = str::from_utf8(came).ok().ok_or(RowFault::Outside)?;
-    compare_lines(came, wanted, &mut outcome)?;
+    let came = came?;
+    compare_lines(str::from_utf8(&came).unwrap_or("?"), wanted, &mut outcome);
     Ok(outcome)
 }
 
@@ -76,18 +71,17 @@ fn play_file<'a>(
     file: &'a str,
     text: &'a str,
     beside: &str,
-) -> Result<Option<Outcome<'a>>, RowFault> {
+) -> Result<Outcome<'a>, RowFault> {
     let Some((front, sort)) = sort_of(file) else {
-        return Ok(None);
+        return Err(RowFault::Outside);
     };
-    let outcome = match sort {
-        Sort::Rows => play_rows(alloc, file, kind_of(front), text)?,
-        Sort::Talk => play_talk(alloc, file, text)?,
-        Sort::Script => compared(alloc, file, &replayed(alloc, text.as_bytes())?, beside)?,
-        Sort::Cluster => compared(alloc, file, &briefly(alloc, text.as_bytes())?, beside)?,
-        Sort::Records => compared(alloc, file, &shown(alloc, text.as_bytes())?, beside)?,
-    };
-    Ok(Some(outcome))
+    match sort {
+        Sort::Rows => Ok(play_rows(alloc, file, kind_of(front), text)),
+        Sort::Talk => play_talk(alloc, file, text),
+        Sort::Script => compared(alloc, file, replayed(alloc, text.as_bytes()), beside),
+        Sort::Cluster => compared(alloc, file, briefly(alloc, text.as_bytes()), beside),
+        Sort::Records => compared(alloc, file, shown(alloc, text.as_bytes()), beside),
+    }
 }
 
 /// The names of the files in the folder, in order.
@@ -117,10 +111,7 @@ fn beside(rt: &HostRuntime, name: &str) -> io::Result<String> {
 fn play_named(rt: &HostRuntime, name: &str) -> io::Result<bool> {
     let text = fs::read_to_string(rt, name)?;
     let beside = beside(rt, name)?;
-    let played = play_file(rt.alloc(), name, text.as_str(), beside.as_str()).map_err(io_fault)?;
-    let Some(outcome) = played else {
-        return Ok(true);
-    };
+    let outcome = play_file(rt.alloc(), name, text.as_str(), beside.as_str()).map_err(io_fault)?;
     let is_good = outcome.is_good();
     let report = outcome.report().map_err(io_fault)?;
     println!(rt; "{report}")?;

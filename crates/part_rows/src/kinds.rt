@@ -12,27 +12,24 @@ use part_state::{
     CbSlotRows, CopyRows, ExtentsRows, FenceRows, FileStateRows, MdsReadRows, MdsWriteRows,
     MirrorsRows, RecallRows, SessionsRows, WriterRows,
 };
-use row_words::{Part, RowFault};
+use row_words::Part;
 use std::alloc::Global;
 
 /// Who plays rows on a part of whatever kind.
 pub trait Player {
     /// Plays them on a part on which no call was made.
-    fn play<P: Part>(&mut self, part: &mut P) -> Result<(), RowFault>;
+    fn play<P: Part>(&mut self, part: &mut P);
 }
-
-/// What came of playing; `None` where there is no such kind.
-type Played = Option<Result<(), RowFault>>;
 
 /// Has the rows played on this part.
-fn on<P: Part + Drop, V: Player>(player: &mut V, part: P) -> Played {
+fn on<P: Part + Drop, V: Player>(player: &mut V, part: P) -> bool {
     let mut part = part;
-    let played = player.play(&mut part);
-    Some(played)
+    player.play(&mut part);
+    true
 }
 
-/// Parts that keep states.
-fn on_state<V: Player>(alloc: Global, kind: &str, player: &mut V) -> Played {
+/// Parts that keep states. Like the next two it answers whether there is such a kind.
+fn on_state<V: Player>(alloc: Global, kind: &str, player: &mut V) -> bool {
     match kind {
         "cbslot" => on(player, CbSlotRows::new()),
         "copy" => on(player, CopyRows::new()),
@@ -47,12 +44,12 @@ fn on_state<V: Player>(alloc: Global, kind: &str, player: &mut V) -> Played {
         "recalls" => on(player, RecallRows::new()),
         "sessions" => on(player, SessionsRows::new(alloc)),
         "writer" => on(player, WriterRows::new()),
-        _ => None,
+        _ => false,
     }
 }
 
 /// Machines, runs of the program, and the lines that it reads.
-fn on_nodes<V: Player>(alloc: Global, kind: &str, player: &mut V) -> Played {
+fn on_nodes<V: Player>(alloc: Global, kind: &str, player: &mut V) -> bool {
     match kind {
         "client" => on(player, ClientRows::new(alloc)),
         "config" => on(player, ConfigRows),
@@ -62,12 +59,12 @@ fn on_nodes<V: Player>(alloc: Global, kind: &str, player: &mut V) -> Played {
         "run" => on(player, RunRows),
         "server" => on(player, ServerRows::new(alloc)),
         "store" => on(player, StoreRows::new(alloc)),
-        _ => None,
+        _ => false,
     }
 }
 
 /// Messages, calls, streams and entries.
-fn on_messages<V: Player>(alloc: Global, kind: &str, player: &mut V) -> Played {
+fn on_messages<V: Player>(alloc: Global, kind: &str, player: &mut V) -> bool {
     match kind {
         "devices" => on(player, DevicesRows::new(alloc)),
         "dscalls" => on(player, DsCallsRows),
@@ -80,17 +77,17 @@ fn on_messages<V: Player>(alloc: Global, kind: &str, player: &mut V) -> Played {
         "operations" => on(player, OperationRows),
         "recallcalls" => on(player, RecallCallsRows),
         "results" => on(player, ResultsRows::new()),
-        _ => None,
+        _ => false,
     }
 }
 
-/// Has rows played on a new part of a kind.
-pub fn on_kind<V: Player>(alloc: Global, kind: &str, player: &mut V) -> Played {
-    if let Some(played) = on_state(alloc, kind, player) {
-        return Some(played);
+/// Has rows played on a new part of a kind; answers whether there is such a kind.
+pub fn on_kind<V: Player>(alloc: Global, kind: &str, player: &mut V) -> bool {
+    if on_state(alloc, kind, player) {
+        return true;
     }
-    if let Some(played) = on_nodes(alloc, kind, player) {
-        return Some(played);
+    if on_nodes(alloc, kind, player) {
+        return true;
     }
     on_messages(alloc, kind, player)
 }

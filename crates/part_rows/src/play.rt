@@ -25,14 +25,13 @@ struct TextRows<'a> {
 }
 
 impl Player for TextRows<'_> {
-    fn play<P: Part>(&mut self, part: &mut P) -> Result<(), RowFault> {
+    fn play<P: Part>(&mut self, part: &mut P) {
         for (place, line) in self.text.lines().enumerate() {
             if let Some((call, wanted)) = row_of(line) {
                 self.outcome
-                    .play(part, place.saturating_add(1), call, wanted)?;
+                    .play(part, place.saturating_add(1), call, wanted);
             }
         }
-        Ok(())
     }
 }
 
@@ -44,45 +43,43 @@ struct TalkRows<'a> {
 }
 
 impl Player for TalkRows<'_> {
-    fn play<P: Part>(&mut self, part: &mut P) -> Result<(), RowFault> {
+    fn play<P: Part>(&mut self, part: &mut P) {
         for row in &self.rows {
             self.outcome
-                .play(part, row.line, row.call.as_str(), row.wanted.as_str())?;
+                .play(part, row.line, row.call.as_str(), row.wanted.as_str());
         }
-        Ok(())
     }
 }
 
 /// Plays the rows of the text of a file on a part of a kind.
-pub fn play_rows<'a>(
-    alloc: Global,
-    file: &'a str,
-    kind: &str,
-    text: &'a str,
-) -> Result<Outcome<'a>, RowFault> {
+pub fn play_rows<'a>(alloc: Global, file: &'a str, kind: &str, text: &'a str) -> Outcome<'a> {
     let mut rows = TextRows {
         text,
         outcome: Outcome::new(alloc, file),
     };
-    match on_kind(alloc, kind, &mut rows) {
-        Some(played) => played?,
-        None => rows.outcome.compare(0, kind, "a kind", "none")?,
+    if !on_kind(alloc, kind, &mut rows) {
+        rows.outcome.compare(0, kind, "a kind", "none");
     }
-    Ok(rows.outcome)
+    rows.outcome
+}
+
+/// Plays rows of conversations on a part of a kind.
+fn played_talk<'a>(alloc: Global, file: &'a str, kind: &str, rows: Vec<Row>) -> Outcome<'a> {
+    let mut rows = TalkRows {
+        rows,
+        outcome: Outcome::new(alloc, file),
+    };
+    if !on_kind(alloc, kind, &mut rows) {
+        rows.outcome.compare(1, kind, "a kind", "none");
+    }
+    rows.outcome
 }
 
 /// Plays the conversations of the text of a file.
 pub fn play_talk<'a>(alloc: Global, file: &'a str, text: &str) -> Result<Outcome<'a>, RowFault> {
     let talk = Talk::read(alloc, text)?;
-    let mut rows = TalkRows {
-        rows: talk.rows()?,
-        outcome: Outcome::new(alloc, file),
-    };
-    match on_kind(alloc, talk.kind(), &mut rows) {
-        Some(played) => played?,
-        None => rows.outcome.compare(1, talk.kind(), "a kind", "none")?,
-    }
-    Ok(rows.outcome)
+    let rows = talk.rows()?;
+    Ok(played_talk(alloc, file, talk.kind(), rows))
 }
 
 /// Want of memory, which alone can end a row.
@@ -90,75 +87,101 @@ pub fn io_fault(_: RowFault) -> io::Error {
     io::Error::from(io::ErrorKind::OutOfMemory)
 }
 
-/// The standard input, a call a line.
-#[derive(Drop)]
-struct InputRows<'a> {
-    rt: &'a HostRuntime,
-}
-
-/// Plays a line, and prints the answer.
-fn answer_line<P: Part>(rt: &HostRuntime, part: &mut P, line: &str) -> Result<(), RowFault> {
-    let came = put_answer(rt.alloc(), part, line)?;
-    println!(rt; "{came}").ok().ok_or(RowFault::Outside)
-}
-
-impl Player for InputRows<'_> {
-    fn play<P: Part>(&mut self, part: &mut P) -> Result<(), RowFault> {
-        for line in self.rt.stdin().lines(self.rt.alloc()) {
-            let line = line.ok().ok_or(RowFault::Outside)?;
-            answer_line(self.rt, part, line.as_str())?;
-        }
-        Ok(())
+/// Plays a line, and prints the answer; answers whether memory, the input and the output did not fail.
+fn is_answered<P: Part>(rt: &HostRuntime, part: &mut P, line: &str) -> bool {
+    match put_answer(rt.alloc(), part, line) {
+        Ok(came) => println!(rt; "{came}").is_ok(),
+        Err(_) => false,
     }
 }
 
-/// The events of conversations.
+/// The standard input, a call a line, and whether it was played to its end.
+#[derive(Drop)]
+struct InputRows<'a> {
+    rt: &'a HostRuntime,
+    is_played: bool,
+}
+
+impl Player for InputRows<'_> {
+    fn play<P: Part>(&mut self, part: &mut P) {
+        for line in self.rt.stdin().lines(self.rt.alloc()) {
+            let Ok(line) = line else {
+                return;
+            };
+            if !is_answered(self.rt, part, line.as_str()) {
+                return;
+            }
+        }
+        self.is_played = true;
+    }
+}
+
+/// The events of conversations, and whether they were played to their end.
 #[derive(Drop)]
 struct InputTalk<'a> {
     rt: &'a HostRuntime,
     rows: Vec<Row>,
+    is_played: bool,
 }
 
 impl Player for InputTalk<'_> {
-    fn play<P: Part>(&mut self, part: &mut P) -> Result<(), RowFault> {
+    fn play<P: Part>(&mut self, part: &mut P) {
         for row in &self.rows {
-            answer_line(self.rt, part, row.call.as_str())?;
+            if !is_answered(self.rt, part, row.call.as_str()) {
+                return;
+            }
         }
-        Ok(())
+        self.is_played = true;
     }
 }
 
-/// What came of the standard input, played on a part of this kind.
-fn ended(rt: &HostRuntime, kind: &str, played: Option<Result<(), RowFault>>) -> io::Result<bool> {
-    match played {
-        Some(played) => {
-            played.map_err(io_fault)?;
-            Ok(true)
-        }
-        None => {
-            eprintln!(rt; "part_rows: there is no kind '{kind}'")?;
-            Ok(false)
-        }
+/// What came of the standard input, played on a part of this kind if there is such a kind.
+fn ended(rt: &HostRuntime, kind: &str, is_kind: bool, is_played: bool) -> io::Result<bool> {
+    if !is_kind {
+        eprintln!(rt; "part_rows: there is no kind '{kind}'")?;
+        return Ok(false);
     }
+    if !is_played {
+        return Err(io_fault(RowFault::NoMemory));
+    }
+    Ok(true)
 }
 
 /// Plays the conversations of the standard input, and prints what comes of each event.
 fn play_input_talk(rt: &HostRuntime) -> io::Result<bool> {
     let text = io::read_to_string(rt.alloc(), rt.stdin())?;
     let talk = Talk::read(rt.alloc(), text.as_str()).map_err(io_fault)?;
-    let rows = talk.rows().map_err(io_fault)?;
-    let played = on_kind(rt.alloc(), talk.kind(), &mut InputTalk { rt, rows });
-    ended(rt, talk.kind(), played)
+    let mut input = InputTalk {
+        rt,
+        rows: talk.rows().map_err(io_fault)?,
+        is_played: false,
+    };
+    let is_kind = on_kind(rt.alloc(), talk.kind(), &mut input);
+    ended(rt, talk.kind(), is_kind, input.is_played)
+}
+
+/// Plays the standard input on a part of a kind, and prints an answer a line.
+fn play_input_rows(rt: &HostRuntime, kind: &str) -> io::Result<bool> {
+    let mut input = InputRows {
+        rt,
+        is_played: false,
+    };
+    let is_kind = on_kind(rt.alloc(), kind, &mut input);
+    ended(rt, kind, is_kind, input.is_played)
+}
+
+/// What a command prints of the standard input.
+fn printed(alloc: Global, text: &[u8], is_script: bool) -> Result<Vec<u8>, RowFault> {
+    if is_script {
+        return replayed(alloc, text);
+    }
+    shown(alloc, text)
 }
 
 /// Prints what a command prints of the standard input.
 fn play_input_text(rt: &HostRuntime, is_script: bool) -> io::Result<bool> {
     let text = io::read_to_string(rt.alloc(), rt.stdin())?;
-    let bytes = if is_script {
-        replayed(rt.alloc(), text.as_bytes()).map_err(io_fault)?
-    } else {
-        shown(rt.alloc(), text.as_bytes()).map_err(io_fault)?
-    };
+    let bytes = printed(rt.alloc(), text.as_bytes(), is_script).map_err(io_fault)?;
     let came = str::from_utf8(&bytes).unwrap_or("?");
     print!(rt; "{came}")?;
     Ok(true)
@@ -171,9 +194,6 @@ pub fn play_input(rt: &HostRuntime, kind: &str) -> io::Result<bool> {
         "talk" => play_input_talk(rt),
         "replay" => play_input_text(rt, true),
         "show" => play_input_text(rt, false),
-        _ => {
-            let played = on_kind(rt.alloc(), kind, &mut InputRows { rt });
-            ended(rt, kind, played)
-        }
+        _ => play_input_rows(rt, kind),
     }
 }

@@ -4,7 +4,7 @@ use crate::text::read_text;
 use device_addr::{NetAddr, print_universal};
 use ff_node::{Config, ConfigFault, read_config};
 use ff_xdr::Out;
-use row_words::{Answer, Part, RowFault, Words};
+use row_words::{Answer, Part, Words};
 use std::str;
 
 /// Plays rows of configurations.
@@ -12,49 +12,63 @@ use std::str;
 pub struct ConfigRows;
 
 /// Appends an address to the last word.
-fn push_address(address: &NetAddr, answer: &mut Answer) -> Result<(), RowFault> {
+fn push_address(address: &NetAddr, answer: &mut Answer) {
     let mut out = Out::new(answer.alloc());
-    print_universal(address, &mut out)?;
-    let text = str::from_utf8(out.bytes()).ok().ok_or(RowFault::Outside)?;
-    answer.push(text)
+    if print_universal(address, &mut out).is_err() {
+        answer.want_memory();
+    }
+    match str::from_utf8(out.bytes()) {
+        Ok(text) => answer.push(text),
+        Err(_) => answer.refuse(),
+    }
 }
 
-/// The servers with commas between them, the metadata server, and the mirrors, the node's own number and its turns.
-fn put_config(config: &Config, answer: &mut Answer) -> Result<(), RowFault> {
-    answer.word("")?;
-    for (place, server) in config.servers.iter().enumerate() {
+/// Addresses with commas between them.
+fn put_addresses(addresses: &[NetAddr], answer: &mut Answer) {
+    answer.word("");
+    for (place, address) in addresses.iter().enumerate() {
         if place > 0 {
-            answer.push(",")?;
+            answer.push(",");
         }
-        push_address(server, answer)?;
+        push_address(address, answer);
     }
-    answer.word("")?;
-    push_address(&config.mds, answer)?;
-    for number in [config.mirrors, config.own, config.turns] {
-        answer.number(u64::from(number))?;
-    }
-    Ok(())
 }
 
-/// `read_config TEXT`: what the line configures, or that it is bad.
-fn play_config(words: &mut Words<'_>, answer: &mut Answer) -> Result<(), RowFault> {
-    let line = read_text(words)?;
-    words.end()?;
-    match read_config(words.alloc(), &line) {
+/// The servers, the metadata server, and the mirrors, the node's own number and its turns.
+fn put_config(config: &Config, answer: &mut Answer) {
+    put_addresses(&config.servers, answer);
+    answer.word("");
+    push_address(&config.mds, answer);
+    answer.number32(config.mirrors);
+    answer.number32(config.own);
+    answer.number32(config.turns);
+}
+
+/// What a line configures, or that it is bad.
+fn put_read(read: Result<Config, ConfigFault>, answer: &mut Answer) {
+    match read {
         Ok(config) => {
-            answer.word("Ok")?;
-            put_config(&config, answer)
+            answer.word("Ok");
+            put_config(&config, answer);
         }
         Err(ConfigFault::Bad) => answer.word("Bad"),
-        Err(ConfigFault::NoMemory) => Err(RowFault::NoMemory),
+        Err(ConfigFault::NoMemory) => answer.want_memory(),
+    }
+}
+
+/// `read_config TEXT`.
+fn play_config(words: &mut Words<'_>, answer: &mut Answer) {
+    let line = read_text(words);
+    if words.end() {
+        put_read(read_config(answer.alloc(), &line), answer);
     }
 }
 
 impl Part for ConfigRows {
-    fn call(&mut self, words: &mut Words<'_>, answer: &mut Answer) -> Result<(), RowFault> {
-        match words.word()? {
+    fn call(&mut self, words: &mut Words<'_>, answer: &mut Answer) {
+        match words.word() {
             "read_config" => play_config(words, answer),
-            _ => Err(RowFault::Outside),
+            _ => answer.refuse(),
         }
     }
 }

@@ -1,6 +1,6 @@
 //! What the program prints of a text.
 
-use crate::program::{Ended, Failing, ran};
+use crate::program::{Ended, Over, ran};
 use row_words::RowFault;
 use std::alloc::Global;
 
@@ -29,15 +29,7 @@ fn printed(alloc: Global, words: &[&str], text: &[u8]) -> Result<Vec<u8>, RowFau
         said.push(String::from_str(alloc, word)?)?;
     }
     let text = text.to_vec(alloc)?;
-    let ended = ran(
-        alloc,
-        &said,
-        text,
-        Vec::new(alloc),
-        Vec::new(alloc),
-        Vec::new(alloc),
-        Failing::none(alloc),
-    )?;
+    let ended = ran(alloc, Over::source(alloc, said, text))?;
     let mut bytes = ended.sink.bytes().to_vec(alloc)?;
     push_end(&ended, alloc, &mut bytes)?;
     Ok(bytes)

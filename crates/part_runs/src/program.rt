@@ -1,8 +1,8 @@
 //! A run of the program over memory.
 
 use ff_run::run;
+use ff_xdr::NoMemory;
 use node_link::{Arrival, MemoryClock, MemoryLink};
-use row_words::RowFault;
 use rpc_record::{MemorySink, MemorySource};
 use std::alloc::Global;
 use store_disk::MemoryDisk;
@@ -30,6 +30,32 @@ impl Failing {
     }
 }
 
+/// What a run of the program is over: its words, the bytes of its source and of its disk, what comes over its link, the
+/// moments that its clock gives, and the calls that fail.
+#[derive(Drop)]
+pub struct Over {
+    pub said: Vec<String>,
+    pub failing: Failing,
+    pub log: Vec<u8>,
+    pub moments: Vec<u64>,
+    pub arrivals: Vec<Arrival>,
+    pub text: Vec<u8>,
+}
+
+impl Over {
+    /// A run with these words over this source, and nothing else.
+    pub fn source(alloc: Global, said: Vec<String>, text: Vec<u8>) -> Over {
+        Over {
+            said,
+            failing: Failing::none(alloc),
+            log: Vec::new(alloc),
+            moments: Vec::new(alloc),
+            arrivals: Vec::new(alloc),
+            text,
+        }
+    }
+}
+
 /// What a run came to.
 #[derive(Drop)]
 pub struct Ended {
@@ -40,26 +66,25 @@ pub struct Ended {
     pub link: MemoryLink,
 }
 
-/// Runs the program with these words, over a source and a disk of these bytes, a link over which these come and a clock
-/// that gives these moments.
-pub fn ran(
-    alloc: Global,
-    said: &[String],
-    text: Vec<u8>,
-    log: Vec<u8>,
-    arrivals: Vec<Arrival>,
-    moments: Vec<u64>,
-    failing: Failing,
-) -> Result<Ended, RowFault> {
+/// Runs the program.
+pub fn ran(alloc: Global, over: Over) -> Result<Ended, NoMemory> {
+    let Over {
+        said,
+        failing,
+        log,
+        moments,
+        arrivals,
+        text,
+    } = over;
+    let mut disk = MemoryDisk::new(alloc, log, failing.disk)?;
     let mut source = MemorySource::new(text, failing.source);
     let mut sink = MemorySink::new(alloc, failing.sink);
     let mut notes = MemorySink::new(alloc, failing.notes);
-    let mut disk = MemoryDisk::new(alloc, log, failing.disk)?;
     let mut link = MemoryLink::new(alloc, arrivals, failing.link);
     let mut clock = MemoryClock::new(moments);
     let status = run(
         alloc,
-        said,
+        &said,
         &mut source,
         &mut sink,
         &mut notes,

@@ -1,11 +1,11 @@
 //! Rows of runs of the program.
 
 use crate::arrivals::{put_sent, read_arrivals};
-use crate::program::{Ended, Failing, ran};
+use crate::program::{Ended, Failing, Over, ran};
 use crate::text::{put_text, read_text};
 use ff_run::run;
 use node_link::{MemoryClock, SureLink};
-use row_words::{Answer, Part, RowFault, Words, number64};
+use row_words::{Answer, Part, RowFault, Words};
 use rpc_record::{StdSink, SureSink, SureSource};
 use std::alloc::Global;
 use std::io;
@@ -16,152 +16,199 @@ use store_disk::NoDisk;
 pub struct RunRows;
 
 impl Failing {
-    /// Another call of a stream.
-    fn add(&mut self, stream: &str, number: u64) -> Result<(), RowFault> {
-        let calls = match stream {
-            "source" => &mut self.source,
-            "sink" => &mut self.sink,
-            "notes" => &mut self.notes,
-            "disk" => &mut self.disk,
-            "link" => &mut self.link,
-            _ => return Err(RowFault::Outside),
-        };
-        calls.push(number)?;
-        Ok(())
+    /// The calls of a stream, by its name.
+    fn calls(&mut self, stream: &str) -> Option<&mut Vec<u64>> {
+        match stream {
+            "source" => Some(&mut self.source),
+            "sink" => Some(&mut self.sink),
+            "notes" => Some(&mut self.notes),
+            "disk" => Some(&mut self.disk),
+            "link" => Some(&mut self.link),
+            _ => None,
+        }
+    }
+
+    /// Another call, as `source:2`.
+    fn read(&mut self, words: &mut Words<'_>) {
+        let stream = words.before(":");
+        let number = words.number64();
+        match self.calls(stream) {
+            None => words.note(RowFault::Outside),
+            Some(calls) => {
+                if calls.push(number).is_err() {
+                    words.note(RowFault::NoMemory);
+                }
+            }
+        }
     }
 }
 
 /// The calls that fail, as `source:2,notes:1`; `-` is none.
-fn read_failing(words: &mut Words<'_>) -> Result<Failing, RowFault> {
+fn read_failing(words: &mut Words<'_>) -> Failing {
     let mut failing = Failing::none(words.alloc());
-    let word = words.word()?;
-    if word == "-" {
-        return Ok(failing);
+    if words.is_none() {
+        return failing;
     }
-    for item in word.split(',') {
-        let (stream, number) = item.split_once(":").ok_or(RowFault::Outside)?;
-        failing.add(stream, number64(number)?)?;
+    for text in words.word().split(',') {
+        let mut item = Words::of(words.alloc(), text);
+        failing.read(&mut item);
+        words.behind(item);
     }
-    Ok(failing)
+    failing
+}
+
+/// Another word behind the program's name.
+fn push_said(text: &str, said: &mut Vec<String>, words: &mut Words<'_>) {
+    match String::from_str(words.alloc(), text) {
+        Err(_) => words.note(RowFault::NoMemory),
+        Ok(word) => {
+            if said.push(word).is_err() {
+                words.note(RowFault::NoMemory);
+            }
+        }
+    }
 }
 
 /// The words behind the program's name, with commas between them; `''` is a word of no letters, and `-` no words.
-fn read_said(words: &mut Words<'_>) -> Result<Vec<String>, RowFault> {
-    let alloc = words.alloc();
-    let mut said = Vec::new(alloc);
-    let word = words.word()?;
-    if word == "-" {
-        return Ok(said);
+fn read_said(words: &mut Words<'_>) -> Vec<String> {
+    let mut said = Vec::new(words.alloc());
+    if words.is_none() {
+        return said;
     }
-    for item in word.split(',') {
-        let text = if item == "''" { "" } else { item };
-        said.push(String::from_str(alloc, text)?)?;
+    for item in words.word().split(',') {
+        push_said(if item == "''" { "" } else { item }, &mut said, words);
     }
-    Ok(said)
+    said
 }
 
-/// The status and the note.
-fn put_end(ended: &Ended, answer: &mut Answer) -> Result<(), RowFault> {
-    answer.number(u64::from(ended.status))?;
-    put_text(ended.notes.bytes(), answer)
-}
-
-/// `run WORDS FAILING TEXT`: the status, the note and what was printed.
-fn play_run(words: &mut Words<'_>, answer: &mut Answer) -> Result<(), RowFault> {
-    let alloc = words.alloc();
-    let said = read_said(words)?;
-    let failing = read_failing(words)?;
-    let text = read_text(words)?;
-    words.end()?;
-    let ended = ran(
-        alloc,
-        &said,
-        text,
-        Vec::new(alloc),
-        Vec::new(alloc),
-        Vec::new(alloc),
-        failing,
-    )?;
-    put_end(&ended, answer)?;
-    put_text(ended.sink.bytes(), answer)
+/// The word of a data server.
+fn ds_word(words: &mut Words<'_>) -> Vec<String> {
+    let mut said = Vec::new(words.alloc());
+    push_said("ds", &mut said, words);
+    said
 }
 
 /// The moments that a clock gives, in seconds, with commas between them; `-` is none.
-fn read_moments(words: &mut Words<'_>) -> Result<Vec<u64>, RowFault> {
+fn read_moments(words: &mut Words<'_>) -> Vec<u64> {
     let mut moments = Vec::new(words.alloc());
-    let word = words.word()?;
-    if word == "-" {
-        return Ok(moments);
+    if words.is_none() {
+        return moments;
     }
-    for item in word.split(',') {
-        moments.push(number64(item)?)?;
+    for digits in words.word().split(',') {
+        if moments.push(words.in64(digits)).is_err() {
+            words.note(RowFault::NoMemory);
+        }
     }
-    Ok(moments)
+    moments
+}
+
+/// The status and the note.
+fn put_end(ended: &Ended, answer: &mut Answer) {
+    answer.number(u64::from(ended.status));
+    put_text(ended.notes.bytes(), answer);
+}
+
+/// What a row says of a run that has ended.
+#[derive(Clone, Copy)]
+enum Told {
+    /// What was printed.
+    Printed,
+    /// How many calls of the link failed, and what was sent.
+    Sent,
+    /// How many calls of the link and of the disk failed, the disk's bytes, and what was sent.
+    Stored,
+    /// How many calls of the link failed, what was written, and what was sent.
+    Written,
+}
+
+/// What a row says of a run that has ended, behind the status and the note.
+fn put_told(told: Told, ended: &Ended, answer: &mut Answer) {
+    match told {
+        Told::Printed => put_text(ended.sink.bytes(), answer),
+        Told::Sent => {
+            answer.number(ended.link.faults());
+            put_sent(ended.link.sent(), answer);
+        }
+        Told::Stored => {
+            answer.number(ended.link.faults());
+            answer.number(ended.disk.faults());
+            answer.bytes(ended.disk.bytes());
+            put_sent(ended.link.sent(), answer);
+        }
+        Told::Written => {
+            answer.number(ended.link.faults());
+            put_text(ended.sink.bytes(), answer);
+            put_sent(ended.link.sent(), answer);
+        }
+    }
+}
+
+/// Runs the program, where the row was in its form.
+fn put_ran(told: Told, over: Over, words: &mut Words<'_>, answer: &mut Answer) {
+    if !words.end() {
+        return;
+    }
+    match ran(answer.alloc(), over) {
+        Err(_) => answer.want_memory(),
+        Ok(ended) => {
+            put_end(&ended, answer);
+            put_told(told, &ended, answer);
+        }
+    }
+}
+
+/// `run WORDS FAILING TEXT`: the status, the note and what was printed.
+fn play_run(words: &mut Words<'_>, answer: &mut Answer) {
+    let over = Over {
+        said: read_said(words),
+        failing: read_failing(words),
+        log: Vec::new(words.alloc()),
+        moments: Vec::new(words.alloc()),
+        arrivals: Vec::new(words.alloc()),
+        text: read_text(words),
+    };
+    put_ran(Told::Printed, over, words, answer);
 }
 
 /// `ds FAILING ARRIVALS TEXT`: the status, the note, how many calls of the link failed, and what was sent.
-fn play_ds(words: &mut Words<'_>, answer: &mut Answer) -> Result<(), RowFault> {
-    let alloc = words.alloc();
-    let failing = read_failing(words)?;
-    let arrivals = read_arrivals(words)?;
-    let text = read_text(words)?;
-    words.end()?;
-    let said = vec![in alloc; String::from_str(alloc, "ds")?]?;
-    let ended = ran(
-        alloc,
-        &said,
-        text,
-        Vec::new(alloc),
-        arrivals,
-        Vec::new(alloc),
-        failing,
-    )?;
-    put_end(&ended, answer)?;
-    answer.number(ended.link.faults())?;
-    put_sent(ended.link.sent(), answer)
+fn play_ds(words: &mut Words<'_>, answer: &mut Answer) {
+    let over = Over {
+        said: ds_word(words),
+        failing: read_failing(words),
+        log: Vec::new(words.alloc()),
+        moments: Vec::new(words.alloc()),
+        arrivals: read_arrivals(words),
+        text: read_text(words),
+    };
+    put_ran(Told::Sent, over, words, answer);
 }
 
 /// `store FAILING DISK ARRIVALS TEXT`: the status, the note, how many calls of the link and of the disk failed, the disk's
 /// bytes, and what was sent.
-fn play_store(words: &mut Words<'_>, answer: &mut Answer) -> Result<(), RowFault> {
-    let alloc = words.alloc();
-    let failing = read_failing(words)?;
-    let log = words.bytes()?;
-    let arrivals = read_arrivals(words)?;
-    let text = read_text(words)?;
-    words.end()?;
-    let said = vec![in alloc; String::from_str(alloc, "ds")?]?;
-    let ended = ran(alloc, &said, text, log, arrivals, Vec::new(alloc), failing)?;
-    put_end(&ended, answer)?;
-    answer.number(ended.link.faults())?;
-    answer.number(ended.disk.faults())?;
-    answer.bytes(ended.disk.bytes())?;
-    put_sent(ended.link.sent(), answer)
+fn play_store(words: &mut Words<'_>, answer: &mut Answer) {
+    let over = Over {
+        said: ds_word(words),
+        failing: read_failing(words),
+        log: words.bytes(),
+        moments: Vec::new(words.alloc()),
+        arrivals: read_arrivals(words),
+        text: read_text(words),
+    };
+    put_ran(Told::Stored, over, words, answer);
 }
 
 /// `node WORDS FAILING MOMENTS ARRIVALS TEXT`: the status, the note, how many calls of the link failed, what was written
 /// and what was sent.
-fn play_node(words: &mut Words<'_>, answer: &mut Answer) -> Result<(), RowFault> {
-    let alloc = words.alloc();
-    let said = read_said(words)?;
-    let failing = read_failing(words)?;
-    let moments = read_moments(words)?;
-    let arrivals = read_arrivals(words)?;
-    let text = read_text(words)?;
-    words.end()?;
-    let ended = ran(
-        alloc,
-        &said,
-        text,
-        Vec::new(alloc),
-        arrivals,
-        moments,
-        failing,
-    )?;
-    put_end(&ended, answer)?;
-    answer.number(ended.link.faults())?;
-    put_text(ended.sink.bytes(), answer)?;
-    put_sent(ended.link.sent(), answer)
+fn play_node(words: &mut Words<'_>, answer: &mut Answer) {
+    let over = Over {
+        said: read_said(words),
+        failing: read_failing(words),
+        log: Vec::new(words.alloc()),
+        moments: read_moments(words),
+        arrivals: read_arrivals(words),
+        text: read_text(words),
+    };
+    put_ran(Told::Written, over, words, answer);
 }
 
 /// Runs the program with these two words over this source and nothing else.
@@ -170,43 +217,42 @@ fn ran_words(alloc: Global, word: &str, operand: &str, text: Vec<u8>) -> Result<
         String::from_str(alloc, word)?,
         String::from_str(alloc, operand)?,
     ]?;
-    ran(
-        alloc,
-        &said,
-        text,
-        Vec::new(alloc),
-        Vec::new(alloc),
-        Vec::new(alloc),
-        Failing::none(alloc),
-    )
+    Ok(ran(alloc, Over::source(alloc, said, text))?)
 }
 
-/// `counted N`: the status and the note of a replay that counts what the script of this number brings, and what it
-/// prints.
-fn play_counted(words: &mut Words<'_>, answer: &mut Answer) -> Result<(), RowFault> {
-    let alloc = words.alloc();
-    let number = words.word()?;
-    words.end()?;
+/// A replay that counts what the script of this number brings.
+fn counted(alloc: Global, number: &str) -> Result<Ended, RowFault> {
     let script = ran_words(alloc, "gen", number, Vec::new(alloc))?;
     let text = script.sink.bytes().to_vec(alloc)?;
-    let ended = ran_words(alloc, "replay", "count", text)?;
-    put_end(&ended, answer)?;
-    put_text(ended.sink.bytes(), answer)
+    ran_words(alloc, "replay", "count", text)
 }
 
-/// `status WORDS TEXT`: the status and the note of a run whose text nobody keeps.
-fn play_status(words: &mut Words<'_>, answer: &mut Answer) -> Result<(), RowFault> {
-    let alloc = words.alloc();
-    let said = read_said(words)?;
-    let mut source = SureSource::new(read_text(words)?);
-    words.end()?;
+/// `counted N`: the status and the note of such a replay, and what it prints.
+fn play_counted(words: &mut Words<'_>, answer: &mut Answer) {
+    let number = words.word();
+    if !words.end() {
+        return;
+    }
+    match counted(answer.alloc(), number) {
+        Err(fault) => answer.note(fault),
+        Ok(ended) => {
+            put_end(&ended, answer);
+            put_told(Told::Printed, &ended, answer);
+        }
+    }
+}
+
+/// A run of the program with these words whose text nobody keeps.
+fn put_status(said: &[String], text: Vec<u8>, answer: &mut Answer) {
+    let alloc = answer.alloc();
+    let mut source = SureSource::new(text);
     let mut sink = StdSink::new(io::sink());
     let mut notes = SureSink::new(alloc);
     let mut link = SureLink::new(alloc, Vec::new(alloc));
     let mut clock = MemoryClock::new(Vec::new(alloc));
     let status = run(
         alloc,
-        &said,
+        said,
         &mut source,
         &mut sink,
         &mut notes,
@@ -214,20 +260,29 @@ fn play_status(words: &mut Words<'_>, answer: &mut Answer) -> Result<(), RowFaul
         &mut link,
         &mut clock,
     );
-    answer.number(u64::from(status))?;
-    put_text(notes.bytes(), answer)
+    answer.number(u64::from(status));
+    put_text(notes.bytes(), answer);
+}
+
+/// `status WORDS TEXT`: the status and the note of such a run.
+fn play_status(words: &mut Words<'_>, answer: &mut Answer) {
+    let said = read_said(words);
+    let text = read_text(words);
+    if words.end() {
+        put_status(&said, text, answer);
+    }
 }
 
 impl Part for RunRows {
-    fn call(&mut self, words: &mut Words<'_>, answer: &mut Answer) -> Result<(), RowFault> {
-        match words.word()? {
+    fn call(&mut self, words: &mut Words<'_>, answer: &mut Answer) {
+        match words.word() {
             "run" => play_run(words, answer),
             "ds" => play_ds(words, answer),
             "store" => play_store(words, answer),
             "node" => play_node(words, answer),
             "counted" => play_counted(words, answer),
             "status" => play_status(words, answer),
-            _ => Err(RowFault::Outside),
+            _ => answer.refuse(),
         }
     }
 }

@@ -2,7 +2,7 @@
 
 use cluster_model::MAX_FILE;
 use mirror_writer::Extents;
-use row_words::{Answer, Part, RowFault, Words};
+use row_words::{Answer, Part, Words};
 use std::alloc::Global;
 
 /// A set of places.
@@ -22,51 +22,62 @@ impl ExtentsRows {
     }
 
     /// Adds places, where none of them is in the set and all are of a file.
-    fn insert(&mut self, at: u64, count: u64) -> Result<(), RowFault> {
+    fn insert(&mut self, at: u64, count: u64, answer: &mut Answer) {
         if count > MAX_FILE || at > MAX_FILE - count || self.extents.overlaps(at, count) {
-            return Err(RowFault::Outside);
+            return answer.refuse();
         }
-        self.extents.insert(at, count)?;
-        Ok(())
+        match self.extents.insert(at, count) {
+            Ok(()) => answer.word("Ok"),
+            Err(_) => answer.want_memory(),
+        }
     }
 
-    fn put_gaps(&self, at: u64, count: u64, answer: &mut Answer) -> Result<(), RowFault> {
-        answer.word("Ok")?;
-        answer.word("")?;
-        let gaps = self.extents.gaps(at, count)?;
-        if gaps.is_empty() {
-            return answer.push("-");
+    /// No places again.
+    fn clear(&mut self, words: &mut Words<'_>, answer: &mut Answer) {
+        if words.end() {
+            self.extents = Extents::new(self.alloc);
+            answer.word("Ok");
         }
-        for (place, gap) in gaps.iter().enumerate() {
-            if place > 0 {
-                answer.push(",")?;
-            }
-            answer.push_number(gap.0)?;
-            answer.push(":")?;
-            answer.push_number(gap.1)?;
+    }
+
+    fn put_gaps(&self, at: u64, count: u64, answer: &mut Answer) {
+        match self.extents.gaps(at, count) {
+            Ok(gaps) => put_places(&gaps, answer),
+            Err(_) => answer.want_memory(),
         }
-        Ok(())
+    }
+}
+
+/// Places from the first up to the second, with commas between them; `-` is none.
+fn put_places(places: &[(u64, u64)], answer: &mut Answer) {
+    answer.word("Ok");
+    answer.word(if places.is_empty() { "-" } else { "" });
+    for (place, one) in places.iter().enumerate() {
+        if place > 0 {
+            answer.push(",");
+        }
+        answer.push_number(one.0);
+        answer.push(":");
+        answer.push_number(one.1);
     }
 }
 
 impl Part for ExtentsRows {
-    fn call(&mut self, words: &mut Words<'_>, answer: &mut Answer) -> Result<(), RowFault> {
-        let name = words.word()?;
+    fn call(&mut self, words: &mut Words<'_>, answer: &mut Answer) {
+        let name = words.word();
         if name == "new" {
-            words.end()?;
-            self.extents = Extents::new(self.alloc);
-            return answer.word("Ok");
+            return self.clear(words, answer);
         }
-        let at = words.number64()?;
-        let count = words.last_number64()?;
+        let at = words.number64();
+        let count = words.number64();
+        if !words.end() {
+            return;
+        }
         match name {
-            "insert" => {
-                self.insert(at, count)?;
-                answer.word("Ok")
-            }
+            "insert" => self.insert(at, count, answer),
             "overlaps" => answer.flag(self.extents.overlaps(at, count)),
             "gaps" => self.put_gaps(at, count, answer),
-            _ => Err(RowFault::Outside),
+            _ => answer.refuse(),
         }
     }
 }

@@ -109,8 +109,8 @@ fn digits<'x>(alloc: Global, names: &'x [Name<'x>], words: &'x str) -> Result<St
         push_named(alloc, names, word, &mut bytes)?;
     }
     let mut answer = Answer::new(alloc);
-    answer.bytes(&bytes)?;
-    Ok(answer.into_text())
+    answer.bytes(&bytes);
+    answer.into_text()
 }
 
 /// A node and a record's words, as `NODE HEX` behind this word.
@@ -123,10 +123,10 @@ pub fn record_words<'x>(
     let (node, words) = row.split_once(" ").unwrap_or((row, ""));
     let digits = digits(alloc, names, words)?;
     let mut answer = Answer::new(alloc);
-    answer.word(front)?;
-    answer.word(node)?;
-    answer.word(digits.as_str())?;
-    Ok(answer.into_text())
+    answer.word(front);
+    answer.word(node);
+    answer.word(digits.as_str());
+    answer.into_text()
 }
 
 /// A text in which each part in parentheses are a record's words, which are replaced by their bytes in hexadecimal.
@@ -144,19 +144,26 @@ fn unfolded<'x>(alloc: Global, names: &'x [Name<'x>], line: &'x str) -> Result<S
     Ok(text)
 }
 
+/// Another word: the same digits so many times.
+fn put_repeated(digits: &str, count: u32, answer: &mut Answer) {
+    answer.word("");
+    for _ in 0..count {
+        answer.push(digits);
+    }
+}
+
 /// Appends a word of a call or an entry: `'AB` stands for the bytes of a text, and `0a*3` for the same bytes three times.
-fn put_word(word: &str, answer: &mut Answer) -> Result<(), RowFault> {
+fn put_word(word: &str, answer: &mut Answer) {
     if let Some(text) = word.strip_prefix("'") {
         return answer.bytes(text.as_bytes());
     }
     let Some((digits, count)) = word.split_once("*") else {
         return answer.word(word);
     };
-    answer.word("")?;
-    for _ in 0..number32(count)? {
-        answer.push(digits)?;
+    match number32(count) {
+        Ok(count) => put_repeated(digits, count, answer),
+        Err(fault) => answer.note(fault),
     }
-    Ok(())
 }
 
 /// The words of a call, of an answer or of an entry, as rows have them.
@@ -168,7 +175,7 @@ pub fn row_words<'x>(
     let line = unfolded(alloc, names, line)?;
     let mut answer = Answer::new(alloc);
     for word in line.as_str().split(' ') {
-        put_word(word, &mut answer)?;
+        put_word(word, &mut answer);
     }
-    Ok(answer.into_text())
+    answer.into_text()
 }

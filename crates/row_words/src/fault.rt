@@ -2,16 +2,13 @@
 
 use ff_xdr::NoMemory;
 use std::alloc::{AllocError, AllocFailed};
-use thiserror::Error;
 
 /// Why a line has no answer.
-#[derive(Clone, Copy, Debug, PartialEq, Eq, Error)]
+#[derive(Clone, Copy)]
 pub enum RowFault {
     /// It is out of form, or its call may not be made now.
-    #[error("no call in its form, or none that may be made now")]
     Outside,
     /// Memory was wanted.
-    #[error("no memory")]
     NoMemory,
 }
 

@@ -2,230 +2,256 @@
 
 use crate::answer::Answer;
 use crate::fault::RowFault;
-use crate::numbers::{number32, number64};
 use crate::words::Words;
 use cluster_model::{
     Cred, Mirror, MirrorId, Mirrors, NodeId, Reported, Shown, SwappedIn, Targets, Tick,
 };
 
-/// `m`, or `d` or `c` and a number.
-fn node_of(word: &str) -> Result<NodeId, RowFault> {
-    if let Some(digits) = word.strip_prefix("d") {
-        return Ok(NodeId::Server(number32(digits)?));
+/// Whether a digit says that a place is reported.
+fn is_reported(digit: u8) -> Option<bool> {
+    match digit {
+        b'0' => Some(false),
+        b'1' => Some(true),
+        _ => None,
     }
-    if let Some(digits) = word.strip_prefix("c") {
-        return Ok(NodeId::Client(number32(digits)?));
-    }
-    if word == "m" {
-        return Ok(NodeId::Mds);
-    }
-    Err(RowFault::Outside)
 }
 
-/// `d1.2`: the data server, and the fileid there.
-fn mirror_id_of(word: &str) -> Result<MirrorId, RowFault> {
-    let numbers = word.strip_prefix("d").ok_or(RowFault::Outside)?;
-    let (server, fileid) = numbers.split_once(".").ok_or(RowFault::Outside)?;
-    Ok(MirrorId {
-        server: number32(server)?,
-        fileid: number64(fileid)?,
-    })
-}
-
-/// `1.5`: the boot, and the count in it.
-fn tick_of(word: &str) -> Result<Tick, RowFault> {
-    let (boot, count) = word.split_once(".").ok_or(RowFault::Outside)?;
-    Ok(Tick {
-        boot: number32(boot)?,
-        count: number32(count)?,
-    })
-}
-
-/// `d1.2@1.5`: a mirror, and the ctime last seen there.
-fn mirror_of(word: &str) -> Result<Mirror, RowFault> {
-    let (id, seen) = word.split_once("@").ok_or(RowFault::Outside)?;
-    Ok(Mirror {
-        id: mirror_id_of(id)?,
-        seen: tick_of(seen)?,
-    })
-}
-
-/// `65536:1.7:2`: the owner, the ctime and the size.
-fn shown_of(word: &str) -> Result<Shown, RowFault> {
-    let (owner, rest) = word.split_once(":").ok_or(RowFault::Outside)?;
-    let (seen, size) = rest.split_once(":").ok_or(RowFault::Outside)?;
-    Ok(Shown {
-        owner: Cred(number32(owner)?),
-        seen: tick_of(seen)?,
-        size: number64(size)?,
-    })
-}
-
-/// `d2.3@1.8:d2.2`: a fresh mirror, and the one in whose place it comes; `-` is none.
-fn swapped_of(word: &str) -> Result<SwappedIn, RowFault> {
-    let (new, old) = word.split_once(":").ok_or(RowFault::Outside)?;
-    Ok(SwappedIn {
-        new: mirror_of(new)?,
-        old: if old == "-" {
-            None
-        } else {
-            Some(mirror_id_of(old)?)
-        },
+/// What four digits say of four places.
+fn places_of(digits: &[u8]) -> Option<Reported> {
+    let [first, second, third, fourth] = digits else {
+        return None;
+    };
+    Some(Reported {
+        places: [
+            is_reported(*first)?,
+            is_reported(*second)?,
+            is_reported(*third)?,
+            is_reported(*fourth)?,
+        ],
     })
 }
 
 impl Words<'_> {
+    /// `m`, or `d` or `c` and a number.
+    pub fn node_of(&mut self, word: &str) -> NodeId {
+        if let Some(digits) = word.strip_prefix("d") {
+            return NodeId::Server(self.in32(digits));
+        }
+        if let Some(digits) = word.strip_prefix("c") {
+            return NodeId::Client(self.in32(digits));
+        }
+        if word != "m" {
+            self.note(RowFault::Outside);
+        }
+        NodeId::Mds
+    }
+
     /// A machine.
-    pub fn node(&mut self) -> Result<NodeId, RowFault> {
-        node_of(self.word()?)
+    pub fn node(&mut self) -> NodeId {
+        let word = self.word();
+        self.node_of(word)
     }
 
-    /// A mirror by its two numbers.
-    pub fn mirror_id(&mut self) -> Result<MirrorId, RowFault> {
-        mirror_id_of(self.word()?)
+    /// `d1.2`, a mirror by its two numbers: the data server, and the fileid there.
+    pub fn mirror_id(&mut self) -> MirrorId {
+        self.skip("d");
+        MirrorId {
+            server: self.number32_before("."),
+            fileid: self.number64(),
+        }
     }
 
-    /// A moment of a data server.
-    pub fn tick(&mut self) -> Result<Tick, RowFault> {
-        tick_of(self.word()?)
+    /// A mirror by its two numbers; `-` is none.
+    pub fn mirror_id_option(&mut self) -> Option<MirrorId> {
+        if self.is_none() {
+            return None;
+        }
+        Some(self.mirror_id())
     }
 
-    /// A mirror and the ctime last seen there.
-    pub fn mirror(&mut self) -> Result<Mirror, RowFault> {
-        mirror_of(self.word()?)
+    /// `1.5`, a moment of a data server: the boot, and the count in it.
+    pub fn tick(&mut self) -> Tick {
+        Tick {
+            boot: self.number32_before("."),
+            count: self.number32(),
+        }
+    }
+
+    /// `1.5` before this mark.
+    fn tick_before(&mut self, mark: &str) -> Tick {
+        Tick {
+            boot: self.number32_before("."),
+            count: self.number32_before(mark),
+        }
+    }
+
+    /// `d1.2` before this mark.
+    fn mirror_id_before(&mut self, mark: &str) -> MirrorId {
+        self.skip("d");
+        MirrorId {
+            server: self.number32_before("."),
+            fileid: self.number64_before(mark),
+        }
+    }
+
+    /// `d1.2@1.5`: a mirror, and the ctime last seen there.
+    pub fn mirror(&mut self) -> Mirror {
+        Mirror {
+            id: self.mirror_id_before("@"),
+            seen: self.tick(),
+        }
     }
 
     /// Mirrors with commas between them; `-` is none.
-    pub fn mirror_list(&mut self) -> Result<Vec<Mirror>, RowFault> {
+    pub fn mirror_list(&mut self) -> Vec<Mirror> {
         let mut mirrors = Vec::new(self.alloc());
-        let word = self.word()?;
-        if word == "-" {
-            return Ok(mirrors);
+        if self.is_none() {
+            return mirrors;
         }
-        for item in word.split(',') {
-            mirrors.push(mirror_of(item)?)?;
+        for text in self.word().split(',') {
+            let mut item = Words::of(self.alloc(), text);
+            if mirrors.push(item.mirror()).is_err() {
+                self.note(RowFault::NoMemory);
+            }
+            self.behind(item);
         }
-        Ok(mirrors)
+        mirrors
     }
 
     /// Mirrors on different servers, at most four, with commas between them; `-` is none.
-    pub fn mirrors(&mut self) -> Result<Mirrors, RowFault> {
-        Mirrors::of(&self.mirror_list()?).ok_or(RowFault::Outside)
+    pub fn mirrors(&mut self) -> Mirrors {
+        let list = self.mirror_list();
+        match Mirrors::of(&list) {
+            Some(mirrors) => mirrors,
+            None => self.outside(Mirrors::none()),
+        }
+    }
+
+    /// `d2.3@1.8:d2.2`: a fresh mirror, and the one in whose place it comes; `-` is none.
+    fn swapped(&mut self) -> SwappedIn {
+        let id = self.mirror_id_before("@");
+        let seen = self.tick_before(":");
+        SwappedIn {
+            new: Mirror { id, seen },
+            old: self.mirror_id_option(),
+        }
     }
 
     /// Fresh mirrors with commas between them, at most four; `-` is none.
-    pub fn targets(&mut self) -> Result<Targets, RowFault> {
+    pub fn targets(&mut self) -> Targets {
         let mut targets = Targets::none();
-        let word = self.word()?;
-        if word == "-" {
-            return Ok(targets);
+        if self.is_none() {
+            return targets;
         }
-        for item in word.split(',') {
-            if !targets.add(swapped_of(item)?) {
-                return Err(RowFault::Outside);
+        for text in self.word().split(',') {
+            let mut item = Words::of(self.alloc(), text);
+            if !targets.add(item.swapped()) {
+                self.note(RowFault::Outside);
             }
+            self.behind(item);
         }
-        Ok(targets)
+        targets
     }
 
     /// Four digits, one for each place of the live list, `1` where it is reported.
-    pub fn places(&mut self) -> Result<Reported, RowFault> {
-        let digits = self.word()?.as_bytes();
-        let digits = <[u8; 4]>::try_from(digits).ok().ok_or(RowFault::Outside)?;
-        if !digits.iter().all(|digit| matches!(digit, b'0' | b'1')) {
-            return Err(RowFault::Outside);
+    pub fn places(&mut self) -> Reported {
+        match places_of(self.word().as_bytes()) {
+            Some(reported) => reported,
+            None => self.outside(Reported { places: [false; 4] }),
         }
-        Ok(Reported {
-            places: digits.map(|digit| digit == b'1'),
-        })
+    }
+
+    /// `65536:1.7:2`, what a reply shows of a file: the owner, the ctime and the size.
+    pub fn shown_file(&mut self) -> Shown {
+        Shown {
+            owner: Cred(self.number32_before(":")),
+            seen: self.tick_before(":"),
+            size: self.number64(),
+        }
     }
 
     /// What a reply shows of a file; `-` is nothing.
-    pub fn shown(&mut self) -> Result<Option<Shown>, RowFault> {
-        match self.word()? {
-            "-" => Ok(None),
-            word => Ok(Some(shown_of(word)?)),
+    pub fn shown(&mut self) -> Option<Shown> {
+        if self.is_none() {
+            return None;
         }
+        Some(self.shown_file())
     }
 }
 
 impl Answer {
+    /// A letter, and the number of a machine.
+    fn numbered(&mut self, letter: &str, number: u32) {
+        self.word(letter);
+        self.push_number(u64::from(number));
+    }
+
     /// A machine.
-    pub fn node(&mut self, node: NodeId) -> Result<(), RowFault> {
+    pub fn node(&mut self, node: NodeId) {
         match node {
             NodeId::Mds => self.word("m"),
-            NodeId::Server(number) => {
-                self.word("d")?;
-                self.push_number(u64::from(number))
-            }
-            NodeId::Client(number) => {
-                self.word("c")?;
-                self.push_number(u64::from(number))
-            }
+            NodeId::Server(number) => self.numbered("d", number),
+            NodeId::Client(number) => self.numbered("c", number),
         }
     }
 
     /// Appends a mirror's two numbers to the last word.
-    fn push_mirror_id(&mut self, id: MirrorId) -> Result<(), RowFault> {
-        self.push("d")?;
-        self.push_number(u64::from(id.server))?;
-        self.push(".")?;
-        self.push_number(id.fileid)
+    pub fn push_mirror_id(&mut self, id: MirrorId) {
+        self.push("d");
+        self.push_number(u64::from(id.server));
+        self.push(".");
+        self.push_number(id.fileid);
     }
 
     /// Appends a moment to the last word.
-    fn push_tick(&mut self, tick: Tick) -> Result<(), RowFault> {
-        self.push_number(u64::from(tick.boot))?;
-        self.push(".")?;
-        self.push_number(u64::from(tick.count))
+    fn push_tick(&mut self, tick: Tick) {
+        self.push_number(u64::from(tick.boot));
+        self.push(".");
+        self.push_number(u64::from(tick.count));
     }
 
     /// A mirror by its two numbers.
-    pub fn mirror_id(&mut self, id: MirrorId) -> Result<(), RowFault> {
-        self.word("")?;
-        self.push_mirror_id(id)
+    pub fn mirror_id(&mut self, id: MirrorId) {
+        self.word("");
+        self.push_mirror_id(id);
     }
 
     /// A moment of a data server.
-    pub fn tick(&mut self, tick: Tick) -> Result<(), RowFault> {
-        self.word("")?;
-        self.push_tick(tick)
+    pub fn tick(&mut self, tick: Tick) {
+        self.word("");
+        self.push_tick(tick);
     }
 
     /// Appends a mirror and the ctime last seen there to the last word.
-    fn push_mirror(&mut self, mirror: Mirror) -> Result<(), RowFault> {
-        self.push_mirror_id(mirror.id)?;
-        self.push("@")?;
-        self.push_tick(mirror.seen)
+    fn push_mirror(&mut self, mirror: Mirror) {
+        self.push_mirror_id(mirror.id);
+        self.push("@");
+        self.push_tick(mirror.seen);
     }
 
     /// A mirror and the ctime last seen there.
-    pub fn mirror(&mut self, mirror: Mirror) -> Result<(), RowFault> {
-        self.word("")?;
-        self.push_mirror(mirror)
+    pub fn mirror(&mut self, mirror: Mirror) {
+        self.word("");
+        self.push_mirror(mirror);
     }
 
     /// Mirrors, with commas between them; `-` is none.
-    pub fn mirrors(&mut self, mirrors: Mirrors) -> Result<(), RowFault> {
-        self.word("")?;
-        if mirrors.len() == 0 {
-            return self.push("-");
-        }
+    pub fn mirrors(&mut self, mirrors: Mirrors) {
+        self.word(if mirrors.len() == 0 { "-" } else { "" });
         for place in 0..mirrors.len() {
             if place > 0 {
-                self.push(",")?;
+                self.push(",");
             }
             if let Some(mirror) = mirrors.get(place) {
-                self.push_mirror(mirror)?;
+                self.push_mirror(mirror);
             }
         }
-        Ok(())
     }
 
     /// Appends a fresh mirror, and the one in whose place it comes, to the last word.
-    fn push_swapped(&mut self, target: SwappedIn) -> Result<(), RowFault> {
-        self.push_mirror(target.new)?;
-        self.push(":")?;
+    fn push_swapped(&mut self, target: SwappedIn) {
+        self.push_mirror(target.new);
+        self.push(":");
         match target.old {
             None => self.push("-"),
             Some(old) => self.push_mirror_id(old),
@@ -233,38 +259,39 @@ impl Answer {
     }
 
     /// Fresh mirrors, with commas between them; `-` is none.
-    pub fn targets(&mut self, targets: &Targets) -> Result<(), RowFault> {
-        self.word("")?;
-        if targets.as_slice().is_empty() {
-            return self.push("-");
-        }
-        for (place, target) in targets.as_slice().iter().enumerate() {
+    pub fn targets(&mut self, targets: &Targets) {
+        let targets = targets.as_slice();
+        self.word(if targets.is_empty() { "-" } else { "" });
+        for (place, target) in targets.iter().enumerate() {
             if place > 0 {
-                self.push(",")?;
+                self.push(",");
             }
-            self.push_swapped(*target)?;
+            self.push_swapped(*target);
         }
-        Ok(())
     }
 
     /// A digit for each place of a live list.
-    pub fn places(&mut self, reported: &Reported) -> Result<(), RowFault> {
-        self.word("")?;
+    pub fn places(&mut self, reported: &Reported) {
+        self.word("");
         for is_reported in reported.places {
-            self.push(if is_reported { "1" } else { "0" })?;
+            self.push_number(u64::from(is_reported));
         }
-        Ok(())
     }
 
     /// What a reply shows of a file.
-    pub fn shown(&mut self, shown: Option<Shown>) -> Result<(), RowFault> {
-        let Some(shown) = shown else {
-            return self.word("-");
-        };
-        self.number(u64::from(shown.owner.0))?;
-        self.push(":")?;
-        self.push_tick(shown.seen)?;
-        self.push(":")?;
-        self.push_number(shown.size)
+    pub fn shown_file(&mut self, shown: Shown) {
+        self.number32(shown.owner.0);
+        self.push(":");
+        self.push_tick(shown.seen);
+        self.push(":");
+        self.push_number(shown.size);
+    }
+
+    /// What a reply shows of a file; `-` is nothing.
+    pub fn shown(&mut self, shown: Option<Shown>) {
+        match shown {
+            None => self.word("-"),
+            Some(shown) => self.shown_file(shown),
+        }
     }
 }
