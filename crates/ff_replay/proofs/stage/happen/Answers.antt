@@ -1,5 +1,0 @@
-use Rattle.ff_replay.proofs.LineLemmas.{stays}
-use Rattle.ff_replay.proofs.stage.happen.Goals as goal
-
-pub returns-in-Err-Limit-clause-spent : goal.returns-in-Err-Limit-clause-spent
-returns-in-Err-Limit-clause-spent c = stays c.args.world.now c.step.new.self _ c.step.ensures.spent
