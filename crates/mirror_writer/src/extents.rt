@@ -1,6 +1,6 @@
 //! Sets of places of a file.
 
-ghost use Rattle.std.specs.Prelude.{◌≡◌, ◌≤◌, ◌<◌, ◌+◌, [], OnOk, OnErr, IfOk, true, false};
+ghost use Rattle.std.specs.Prelude.{◌≡◌, ◌≤◌, ◌<◌, ◌+◌, [], length, OnOk, OnErr, IfOk, true, false};
 ghost use Rattle.mirror_writer.specs.Extents.{is_place, AreApart, AddsPlaces, SharesPlace, AreGaps, max_place};
 ghost use Rattle.mirror_writer.specs.Runs.{LastUpTo, FirstFrom, BeginsAt, EndsAt, RunsOn, PushesGap};
 
@@ -92,6 +92,14 @@ impl Extents {
             }
         }
         Ok(gaps)
+    }
+
+    /// How many longest runs of places the set has. Takes no memory.
+    pub fn parts(&self) -> u64
+        ensures exact { result ≡ length self.now }
+        ensures longest { AreApart self.now }
+    {
+        self.runs.len() as u64
     }
 
     /// Where a run begins that ends at this place, which is in none; where none does, the place itself.

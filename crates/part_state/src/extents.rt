@@ -1,4 +1,4 @@
-//! A set of places: `new`, `insert AT COUNT`, `overlaps AT COUNT`, `gaps AT COUNT`.
+//! A set of places: `new`, `insert AT COUNT`, `overlaps AT COUNT`, `gaps AT COUNT`, `parts`.
 
 use cluster_model::MAX_FILE;
 use mirror_writer::Extents;
@@ -40,6 +40,12 @@ impl ExtentsRows {
         }
     }
 
+    fn put_parts(&self, words: &mut Words<'_>, answer: &mut Answer) {
+        if words.end() {
+            answer.number(self.extents.parts());
+        }
+    }
+
     fn put_gaps(&self, at: u64, count: u64, answer: &mut Answer) {
         match self.extents.gaps(at, count) {
             Ok(gaps) => put_places(&gaps, answer),
@@ -67,6 +73,9 @@ impl Part for ExtentsRows {
         let name = words.word();
         if name == "new" {
             return self.clear(words, answer);
+        }
+        if name == "parts" {
+            return self.put_parts(words, answer);
         }
         let at = words.number64();
         let count = words.number64();
