@@ -53,7 +53,7 @@ impl Machines {
             file,
             mirror,
             length: stored.size(),
-            bytes: Data::of(self.alloc, stored.read(0, SHOWN))?,
+            bytes: stored.read(0, SHOWN).to_data(self.alloc)?,
         })
     }
 

@@ -1,1 +1,3 @@
-pub mod Undoing
+pub mod Paging
+pub mod Parts
+pub mod KeptMore

@@ -5,11 +5,11 @@ ghost use Rattle.cluster_model.specs.declared.limits.TheConstants.{MAX_FILE};
 ghost use Rattle.cluster_model.specs.Content.{overlay_all, piece_of};
 ghost use Rattle.cluster_model.specs.File.{shown, new_file, all_at, times_after, times_set, time_set, written, committed, set};
 ghost use Rattle.data_file.specs.Kept.{kept_content, IsKeptOf, crashed};
-ghost use Rattle.data_file.specs.Undo.{unrolled, AreUndoable, IsLogged, place_of};
+ghost use Rattle.data_file.specs.Paged.{place_of};
 
+use crate::content::FileContent;
 use crate::keeping::Kept;
-use crate::overlay::{overlay_onto, part_of};
-use crate::undo::{UndoEntry, undo_all, unroll, write_logged};
+use crate::part::FilePart;
 use cluster_model::{Changes, NewTime, Piece, Tick, Times};
 use std::alloc::{AllocError, Global};
 use std::marker::Model;
@@ -61,43 +61,12 @@ pub fn times_set(times: Times, tick: Tick, changes: &Changes) -> Times
     }
 }
 
-/// What was kept so far for a restart, or the stable bytes and the pending writes.
-fn begun(
-    alloc: Global,
-    bytes: &[u8],
-    log: &[UndoEntry],
-    kept: Option<Kept>,
-) -> Result<Kept, AllocError>
-    requires { IsLogged log.now bytes.now }
-    ensures { IfOk result (λ after. after ≡ kept_content (unrolled log.now bytes.now) kept) }
-{
-    match kept {
-        Some(kept) => Ok(kept),
-        None => unroll(alloc, bytes, log),
-    }
-}
-
-/// The bytes that a restart leaves: those that were kept for it, or the stable ones. Takes no memory.
-fn crash(bytes: &mut Vec<u8>, log: &[UndoEntry], kept: Option<Kept>)
-    requires { AreUndoable log.now bytes.old.items }
-    ensures { bytes.new.items ≡ (kept_content (unrolled log.now bytes.old.items) kept).stable }
-{
-    match kept {
-        Some(kept) => *bytes = kept.into_disk(),
-        None => undo_all(bytes, log),
-    }
-}
-
 /// The bytes and the attributes of a file of a data server.
 ///
 /// A write is stable at once, or pending until the next stable one. A reader sees both.
 #[derive(Drop)]
 pub struct DataFile {
-    alloc: Global,
-    // what a reader sees
-    bytes: Vec<u8>,
-    // what undoes the pending writes, the first first
-    log: Vec<UndoEntry>,
+    content: FileContent,
     owner: u32,
     group: u32,
     mode: u32,
@@ -107,13 +76,10 @@ pub struct DataFile {
 
 impl Model for DataFile {
     ghost use Rattle.cluster_model.specs.File.{StoredFile};
-    ghost use Rattle.data_file.specs.Undo.{unrolled, IsLogged};
 
     ghost Value = { StoredFile };
 
-    ghost view = { λ f. record { content = unrolled f.log.items f.bytes.items; owner = f.owner; group = f.group; mode = f.mode; times = f.times; stable_times = f.stable_times } };
-
-    ghost invariant = { λ f. IsLogged f.log.items f.bytes.items };
+    ghost view = { λ f. record { content = f.content; owner = f.owner; group = f.group; mode = f.mode; times = f.times; stable_times = f.stable_times } };
 }
 
 impl DataFile {
@@ -124,9 +90,7 @@ impl DataFile {
         ensures { result ≡ new_file owner group mode tick }
     {
         DataFile {
-            alloc,
-            bytes: Vec::new(alloc),
-            log: Vec::new(alloc),
+            content: FileContent::new(alloc),
             owner,
             group,
             mode,
@@ -140,17 +104,17 @@ impl DataFile {
         ensures exact { result ≡ length (shown self.now) }
         ensures bounded { result ≤ MAX_FILE }
     {
-        self.bytes.len() as u64
+        self.content.size()
     }
 
     /// At most `count` of the bytes that a reader sees, from the byte `at` on (RFC 1813, section
     /// 3.3.6).
     ///
     /// They are fewer where the file ends sooner, and none where it ends at or before `at`.
-    pub fn read(&self, at: u64, count: u32) -> &[u8]
-        ensures { result.now ≡ take count (drop at (shown self.now)) }
+    pub fn read(&self, at: u64, count: u32) -> FilePart<'_>
+        ensures { result ≡ take count (drop at (shown self.now)) }
     {
-        part_of(&self.bytes, at as usize, count as usize)
+        self.content.part(at, count)
     }
 
     /// The user that the file belongs to.
@@ -185,7 +149,7 @@ impl DataFile {
     pub fn pending_count(&self) -> usize
         ensures { result ≡ length self.now.content.pending }
     {
-        self.log.len()
+        self.content.pending().len()
     }
 
     /// Where a pending write stands: the place of its first byte, and how many it has, at least one. The first write has the
@@ -195,8 +159,7 @@ impl DataFile {
         ensures some { IfSome result (λ place. 0 < place.1) }
         ensures bounded { IfSome result (λ place. place.0 + place.1 ≤ MAX_FILE) }
     {
-        let entry = self.log.get(index)?;
-        Some((entry.at(), entry.count()))
+        Some(self.content.pending().get(index)?.place())
     }
 
     /// Puts the bytes at the byte `at`, at the tick (RFC 1813, section 3.3.7).
@@ -230,10 +193,7 @@ impl DataFile {
         ensures ok { OnOk result (self.new ≡ written self.old tick at false bytes.now) }
         ensures err { OnErr result (self.new ≡ self.old) }
     {
-        if bytes.is_empty() {
-            return Ok(());
-        }
-        write_logged(self.alloc, &mut self.log, &mut self.bytes, at, bytes)?;
+        self.content.put_pending(at, bytes)?;
         self.times = times_after(self.times, tick, bytes);
         Ok(())
     }
@@ -243,8 +203,7 @@ impl DataFile {
         ensures ok { OnOk result (self.new ≡ written self.old tick at true bytes.now) }
         ensures err { OnErr result (self.new ≡ self.old) }
     {
-        overlay_onto(&mut self.bytes, at, bytes)?;
-        self.log = Vec::new(self.alloc);
+        self.content.put_synced(at, bytes)?;
         self.times = times_after(self.times, tick, bytes);
         self.stable_times = self.times;
         Ok(())
@@ -254,7 +213,7 @@ impl DataFile {
     pub fn commit(&mut self)
         ensures { self.new ≡ committed self.old }
     {
-        self.log = Vec::new(self.alloc);
+        self.content.settle();
         self.stable_times = self.times;
     }
 
@@ -282,10 +241,10 @@ impl DataFile {
         ensures bytes { IfOk result (λ after. (kept_content self.now.content after).stable ≡ overlay_all (kept_content self.now.content kept).stable (piece_of piece.now (slice_get self.now.content.pending piece.now.index))) }
         ensures bounded { IfOk result (λ after. IsKeptOf self.now after) }
     {
-        if self.log.is_empty() {
+        if self.content.pending().is_empty() {
             return Ok(kept);
         }
-        let mut after = begun(self.alloc, &self.bytes, &self.log, kept)?;
+        let mut after = self.content.begun(kept)?;
         after.add(piece)?;
         Ok(Some(after))
     }
@@ -296,8 +255,7 @@ impl DataFile {
         requires { IsKeptOf self.old kept }
         ensures { self.new ≡ crashed self.old (kept_content self.old.content kept).stable }
     {
-        crash(&mut self.bytes, &self.log, kept);
-        self.log = Vec::new(self.alloc);
+        self.content.crash(kept);
         self.times = self.stable_times;
     }
 }

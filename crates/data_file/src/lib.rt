@@ -2,10 +2,11 @@
 //! (RFC 1813).
 #![tactic(auto)]
 
+mod content;
 mod file;
 mod keeping;
-mod overlay;
-mod undo;
+mod part;
 
 pub use file::{DataFile, times_set};
 pub use keeping::Kept;
+pub use part::FilePart;

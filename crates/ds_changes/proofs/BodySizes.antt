@@ -11,12 +11,6 @@ use Rattle.ff_xdr.proofs.Fields.{length-word}
 use Rattle.ff_xdr.proofs.CutShort.{length-long}
 use Rattle.ff_xdr.proofs.StoppedText.{length-padded}
 use Rattle.ds_log.specs.Bodies.{Logged, Creates, SetsAttributes, HoldsBytes, tick_form, tick_value, range_form, range_value, body_form, body_value}
-use Rattle.ff_xdr.specs.declared.place.ItemsPlace.{ItemsPlace}
-use Rattle.ff_xdr.specs.Items.{contents}
-use Rattle.ds_log.specs.Bodies.{range_from}
-use Rattle.ds_log.specs.declared.range.Range.{Range}
-use Rattle.ds_log.specs.PlainRanges.{plain_range}
-use Rattle.ds_log.specs.PlainBodies.{plain_ranges}
 use Rattle.ds_log.proofs.Reread.{body_again}
 use Rattle.ds_changes.specs.Joined.{IsShown, AreRangesApart, AreJoined}
 use Rattle.ds_changes.specs.Logging.{Spelled, Spells, IsRange, range_sizes, AreFewRanges, IsOwn}
@@ -182,12 +176,3 @@ module _ (fileid owner group mode : ℕ) (times : Times) where
         tick_size times.mtime,
         tick_size times.ctime,
       )
-
--- ---- plain ranges
-
-same_ranges : (rs : List Range) → map range_from (map (λ r. range_value (plain_range r)) rs) ≡ map plain_range rs
-same_ranges [] = refl
-same_ranges (r ∷ rs) = ap (λ (ps : List Pending). plain_range r ∷ ps) (same_ranges rs)
-
-pub made_ranges : (place : ItemsPlace Range) (rs : List Range) → contents range_form (λ r. range_value (plain_range r)) place ≡ map (λ r. range_value (plain_range r)) rs → plain_ranges place ≡ map plain_range rs
-made_ranges place rs made = ap (map range_from) made ∙ same_ranges rs

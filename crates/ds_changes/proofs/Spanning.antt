@@ -7,7 +7,7 @@ use Rattle.std.proofs.lemmas.Bool.{cases_lt}
 use Rattle.std.proofs.lemmas.List.{length-append}
 use Rattle.std.proofs.lemmas.List.Sorted.{Contains-permutation}
 use Rattle.cluster_model.specs.Content.{Pending}
-use Rattle.data_file.specs.Undo.{place_of}
+use Rattle.data_file.specs.Paged.{place_of}
 use Rattle.ds_changes.specs.declared.span.Span.{Span}
 use Rattle.ds_changes.specs.Joined.{IsInRanges}
 use Rattle.ds_changes.specs.Spans.{span_of, IsOfSpan, IsInSpans, IsSpan, AreSpansRising, AreSpansApart, JoinSpans, AddsSpan}

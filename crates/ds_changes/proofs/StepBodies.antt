@@ -1,15 +1,15 @@
 -- The body of a step, by the file that it is about.
-use Rattle.std.proofs.Common.{◌≡◌, ◌≢◌, ◌⊎◌, ℕ, ◌+◌, ◌≤◌, Bool, true, false, List, [], length, ap, subst, Option, Some, None, refl, sym, ◌∙◌}
+use Rattle.std.proofs.Common.{◌≡◌, ◌≢◌, ◌⊎◌, ℕ, ◌+◌, Bool, true, false, List, [], ◌++◌, Option, Some, None, refl, ◌∙◌}
 use Rattle.std.specs.Prelude.{slice_get}
 use Rattle.cluster_model.specs.File.{StoredFile, FileOp, Writes, shown}
-use Rattle.cluster_model.specs.Server.{ServerState, OnFile, max_file}
+use Rattle.cluster_model.specs.Server.{ServerState, OnFile}
 use Rattle.cluster_model.specs.declared.tick.Times.{Times}
 use Rattle.cluster_model.specs.Content.{Pending}
 use Rattle.ds_files.specs.Decisions.{CanDo}
 use Rattle.ds_log.specs.Bodies.{HoldsBytes}
+use Rattle.ds_changes.specs.Joined.{AreJoined}
 use Rattle.ds_changes.specs.Changes.{StableBody, OpBody, BodyOf}
-use Rattle.ds_changes.specs.Logging.{Spells, LogsBy, Logs, AreFewRanges, IsOwn, IsWith}
-use Rattle.ds_changes.proofs.BodySizes.{few_joined}
+use Rattle.ds_changes.specs.Logging.{Spells, LogsBy, Logs}
 use Rattle.ds_changes.proofs.Keeping.{at_index}
 
 pub logs_op : (s : ServerState) (index : ℕ) (f : StoredFile) (op : FileOp) (bytes : Option (List ℕ)) → slice_get s.files index ≡ Some f → LogsBy (OpBody s.clock index f op) bytes → Logs s (OnFile index op) bytes
@@ -30,14 +30,11 @@ not_there s index op can none = let found = at_index s index can.ready.0 in absu
 
 -- ---- what becomes stable
 
-pub few_with : (f : StoredFile) (own ranges : List Pending) → length (shown f) ≤ max_file → IsOwn own → IsWith f own ranges → AreFewRanges ranges
-few_with f own ranges size is w = subst AreFewRanges (sym w.are) (few_joined f.content.pending (shown f) w.before own size w.joined is)
-
-pub stable_spelled : (index : ℕ) (f : StoredFile) (times : Times) (own ranges : List Pending) (bytes : List ℕ) → (f.content.pending ≢ []) ⊎ (own ≢ []) → IsWith f own ranges → Spells (λ b. b ≡ HoldsBytes (index + 2) times.mtime times.ctime ranges) bytes
+pub stable_spelled : (index : ℕ) (f : StoredFile) (times : Times) (own ranges : List Pending) (bytes : List ℕ) → (f.content.pending ≢ []) ⊎ (own ≢ []) → AreJoined f.content.pending (shown f) ranges → Spells (λ b. b ≡ HoldsBytes (index + 2) times.mtime times.ctime (ranges ++ own)) bytes
     → Spells (λ b. StableBody index f times own (Some b)) bytes
-stable_spelled index f times own ranges bytes some w h = record {
+stable_spelled index f times own ranges bytes some joined h = record {
   body = h.body;
-  of = record { some = some; ranges = w.before; joined = w.joined; is = h.of ∙ ap (λ (rs : List Pending). HoldsBytes (index + 2) times.mtime times.ctime rs) w.are };
+  of = record { some = some; ranges = ranges; joined = joined; is = h.of };
   spelled = h.spelled;
   short = h.short;
 }

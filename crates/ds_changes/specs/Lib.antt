@@ -1,4 +1,5 @@
 pub mod Joined
 pub mod Spans
+pub mod HeldRanges
 pub mod Changes
 pub mod Logging

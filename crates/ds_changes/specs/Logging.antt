@@ -1,15 +1,13 @@
 -- The body that is logged of a step, as bytes.
-use Rattle.std.specs.Prelude.{◌≡◌, ℕ, ◌+◌, ◌*◌, ◌<◌, ◌≤◌, ◌^◌, List, [], ◌∷◌, ◌++◌, length, Option, Some, None}
+use Rattle.std.specs.Prelude.{◌≡◌, ℕ, ◌+◌, ◌*◌, ◌<◌, ◌≤◌, ◌^◌, List, [], ◌∷◌, length, Option, Some, None}
 use Rattle.std.specs.List.{AllByRecursion}
 use Rattle.cluster_model.specs.declared.tick.Times.{Times}
 use Rattle.cluster_model.specs.Content.{Pending}
-use Rattle.cluster_model.specs.File.{StoredFile, shown}
 use Rattle.cluster_model.specs.Server.{ServerState, Effect, max_file}
 use Rattle.ff_xdr.specs.Form.{Fits, spelling}
 use Rattle.ds_log.specs.declared.range.Range.{Range}
 use Rattle.ds_log.specs.PlainRanges.{plain_range}
 use Rattle.ds_log.specs.Bodies.{Logged, tick_form, tick_value, body_form, body_value, body_in}
-use Rattle.ds_changes.specs.Joined.{AreJoined}
 use Rattle.ds_changes.specs.Changes.{BodyOf}
 
 -- the bytes spell a body, and are read as it
@@ -60,12 +58,6 @@ own_of (Some r) = plain_range r ∷ []
 pub record IsOwn (own : List Pending) : Type 0 where
   pub each : AllByRecursion IsRange own
   pub few : range_sizes own ≤ max_file
-
--- the ranges are those of the pending writes, and behind them a write's own
-pub record IsWith (f : StoredFile) (own ranges : List Pending) : Type 0 where
-  pub before : List Pending
-  pub joined : AreJoined f.content.pending (shown f) before
-  pub are : ranges ≡ before ++ own
 
 -- mtime and ctime have a spelling
 abbrev pub TimesFit : Times → Type 0

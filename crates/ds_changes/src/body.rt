@@ -1,6 +1,6 @@
 //! Bodies as bytes.
 
-ghost use Rattle.std.specs.Prelude.{◌≡◌, ◌+◌, ◌<◌, ◌≤◌, ◌^◌, map, IfOk, Some};
+ghost use Rattle.std.specs.Prelude.{◌≡◌, ◌+◌, ◌<◌, ◌≤◌, ◌^◌, ◌++◌, map, IfOk, Some};
 ghost use Rattle.ff_xdr.specs.Form.{Fits};
 ghost use Rattle.cluster_model.specs.Ticks.{next_tick};
 ghost use Rattle.cluster_model.specs.File.{set, Sets};
@@ -8,15 +8,16 @@ ghost use Rattle.cluster_model.specs.Server.{NewFile, max_ticks};
 ghost use Rattle.ds_files.specs.Decisions.{IsMakeable};
 ghost use Rattle.ds_log.specs.Bodies.{HoldsBytes, tick_form, tick_value, body_form, body_value};
 ghost use Rattle.ds_log.specs.PlainBodies.{plain_body};
-ghost use Rattle.ds_log.specs.PlainRanges.{plain_range};
 ghost use Rattle.ds_changes.specs.Changes.{OpBody, BodyOf};
-ghost use Rattle.ds_changes.specs.Logging.{Spelled, Spells, AreFewRanges};
+ghost use Rattle.ds_changes.specs.HeldRanges.{plain_held};
+ghost use Rattle.ds_changes.specs.Logging.{Spelled, Spells, AreFewRanges, IsOwn, own_of};
 
+use crate::held::{HeldRange, put_held};
 use cluster_model::{Changes, Tick};
 use data_file::{DataFile, times_set};
 use ds_files::DataServer;
 use ds_log::{LogBody, Range};
-use ff_xdr::{Array, Items, NoMemory, Out, Wire};
+use ff_xdr::{NoMemory, Out, Wire};
 use std::alloc::Global;
 
 /// The bytes of a body.
@@ -78,25 +79,22 @@ pub fn attributes_set(
     spelled(alloc, &body)
 }
 
-/// That bytes of a file became stable.
+/// That bytes of a file became stable: ranges of the file, and behind them a write's own.
 pub fn bytes_held(
     alloc: Global,
     fileid: u64,
     mtime: Tick,
     ctime: Tick,
-    ranges: &[Range<'_>],
+    ranges: &[HeldRange<'_>],
+    own: Option<Range<'_>>,
 ) -> Result<Vec<u8>, NoMemory>
-    requires few { AreFewRanges (map plain_range ranges.now) }
+    requires few { AreFewRanges (map plain_held ranges.now ++ own_of own) }
+    requires own { IsOwn (own_of own) }
     requires mtime { Fits tick_form (tick_value mtime) }
     requires ctime { Fits tick_form (tick_value ctime) }
-    ensures { IfOk result (λ bytes. Spells (λ body. body ≡ HoldsBytes fileid mtime ctime (map plain_range ranges.now)) bytes.items) }
+    ensures { IfOk result (λ bytes. Spells (λ body. body ≡ HoldsBytes fileid mtime ctime (map plain_held ranges.now ++ own_of own.entry)) bytes.items) }
 {
-    let items = Items::made(ranges);
-    let body = LogBody::Bytes {
-        fileid,
-        mtime,
-        ctime,
-        ranges: Array { items },
-    };
-    spelled(alloc, &body)
+    let mut out = Out::new(alloc);
+    put_held(fileid, mtime, ctime, ranges, own, &mut out)?;
+    Ok(out.into_bytes())
 }

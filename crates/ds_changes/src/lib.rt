@@ -2,6 +2,7 @@
 #![tactic(auto)]
 
 mod body;
+mod held;
 mod join;
 mod laws;
 mod ranges;

@@ -5,9 +5,8 @@ ghost use Rattle.std.specs.Bool.{OnTrue, OnFalse};
 ghost use Rattle.cluster_model.specs.Ticks.{next_tick};
 ghost use Rattle.cluster_model.specs.File.{shown, times_after, Writes};
 ghost use Rattle.cluster_model.specs.Server.{max_file, max_ticks};
-ghost use Rattle.ds_log.specs.PlainRanges.{plain_range};
 ghost use Rattle.ds_changes.specs.Changes as changes;
-ghost use Rattle.ds_changes.specs.Logging.{LogsBy, own_of, IsOwn, IsWith, TimesFit};
+ghost use Rattle.ds_changes.specs.Logging.{LogsBy, own_of, IsOwn, TimesFit};
 
 use crate::body::bytes_held;
 use crate::ranges::pending_ranges;
@@ -54,24 +53,6 @@ fn is_settled(file: &DataFile, own: Option<Range<'_>>) -> bool
     }
 }
 
-/// The ranges of the pending writes, and behind them a write's own.
-fn ranges_with<'f>(
-    alloc: Global,
-    file: &'f DataFile,
-    own: Option<Range<'f>>,
-) -> Result<Vec<Range<'f>>, NoMemory>
-    ensures { IfOk result (λ ranges. IsWith file.now (own_of own.entry) (map plain_range ranges.items)) }
-{
-    let mut ranges = pending_ranges(alloc, file)?;
-    match own {
-        None => Ok(ranges),
-        Some(own) => {
-            ranges.push(own)?;
-            Ok(ranges)
-        }
-    }
-}
-
 /// The body of what becomes stable of the file at an index, with these times and a write's own range
 /// behind what was pending; none where nothing was pending and there is no such range.
 fn stable_body<'f>(
@@ -90,8 +71,15 @@ fn stable_body<'f>(
     if is_settled(file, own) {
         return Ok(None);
     }
-    let ranges = ranges_with(alloc, file, own)?;
-    let bytes = bytes_held(alloc, index as u64 + 2, times.mtime, times.ctime, &ranges)?;
+    let ranges = pending_ranges(alloc, file)?;
+    let bytes = bytes_held(
+        alloc,
+        index as u64 + 2,
+        times.mtime,
+        times.ctime,
+        &ranges,
+        own,
+    )?;
     Ok(Some(bytes))
 }
 

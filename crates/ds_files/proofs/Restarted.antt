@@ -7,7 +7,7 @@ use Rattle.cluster_model.specs.Ticks.{rebooted}
 use Rattle.cluster_model.specs.Content.{Content, survived, pieces_of}
 use Rattle.cluster_model.specs.File.{StoredFile, shown}
 use Rattle.data_file.specs.Kept.{crashed}
-use Rattle.data_file.proofs.Undoing.{kept_le}
+use Rattle.data_file.proofs.KeptMore.{kept_le}
 use Rattle.ds_procedures.specs.declared.server_base.ServerBase.{ServerBase}
 use Rattle.ds_procedures.specs.ServerBases.{IsServer}
 use Rattle.cluster_model.specs.Server.{total_size}

@@ -11,7 +11,6 @@ use crate::receive::replies_with;
 use cluster_model::{Entry, NodeId, Outbox};
 use ds_procedures::Response;
 use ff_xdr::{Data, NoMemory, Out};
-use nfs3_wire::write_reply;
 use rpc_record::{Reply, ReplyBody};
 use std::alloc::Global;
 
@@ -26,13 +25,13 @@ pub fn encode(alloc: Global, reply: &Reply<'_>) -> Result<Data, NoMemory>
 }
 
 /// The record of a result, for the call with this number: the header of a success, and behind it the
-/// result, whose bytes are copied once.
+/// result. The data of a READ go from the file into the record.
 pub fn success(alloc: Global, xid: u32, response: &Response<'_>) -> Result<Data, NoMemory>
     ensures { IfOk result (λ bytes. bytes ≡ reply_bytes (replies_with xid success (arm_spelling nfs.nfs3_results (nfs.reply_value response.now)))) }
 {
     let mut out = Out::new(alloc);
     replies_with(xid, ReplyBody::Success(&[])).write(&mut out)?;
-    write_reply(&response.reply(), &mut out)?;
+    response.write(&mut out)?;
     Ok(Data::from_vec(out.into_bytes()))
 }
 

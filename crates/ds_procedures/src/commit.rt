@@ -42,7 +42,7 @@ fn on_file<'s, 'c>(
         verifier: u64::from(head.clock.boot),
     }));
     Plan {
-        response: Response::new(reply, &[]),
+        response: Response::new(reply),
         effect: Effect::Commits { index },
     }
 }

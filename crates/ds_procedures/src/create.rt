@@ -140,7 +140,7 @@ fn done<'s, 'c>(
         wcc: wcc_between(&before, after),
     };
     Plan {
-        response: Response::new(reply, &[]),
+        response: Response::new(reply),
         effect: Effect::Makes {
             name,
             owner,

@@ -52,7 +52,7 @@ pub fn reply_alone<'s, 'c>(reply: StoredReply) -> Plan<'s, 'c>
     ensures nothing { plain_effect result.effect ≡ NoEffect }
 {
     Plan {
-        response: Response::new(reply, &[]),
+        response: Response::new(reply),
         effect: Effect::Nothing,
     }
 }

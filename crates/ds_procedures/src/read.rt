@@ -27,15 +27,15 @@ fn done<'s, 'c>(index: usize, file: &'s DataFile, args: &ReadArgs<'_>) -> Plan<'
     ensures nothing { plain_effect result.effect ≡ NoEffect }
 {
     let size = file.size();
-    let bytes = file.read(args.offset, args.count.min(MAX_DATA));
-    let count = bytes.len();
+    let part = file.read(args.offset, args.count.min(MAX_DATA));
+    let count = part.len();
     let reply = StoredReply::ReadDone {
         attributes: Some(file_attributes(index as u64 + 2, file)),
         count: count as u32,
         eof: args.offset >= size || size - args.offset <= count as u64,
     };
     Plan {
-        response: Response::new(reply, bytes),
+        response: Response::of_read(reply, part),
         effect: Effect::Nothing,
     }
 }

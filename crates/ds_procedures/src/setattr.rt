@@ -140,7 +140,7 @@ fn done<'s, 'c>(head: &ServerBase, index: usize, file: &DataFile, changes: Chang
     let after = attributes_set(fileid, file, head.clock.next(), &changes);
     let reply = StoredReply::SetAttr(SetAttrReply::Done(wcc_between(&before, after)));
     Plan {
-        response: Response::new(reply, &[]),
+        response: Response::new(reply),
         effect: Effect::Sets { index, changes },
     }
 }

@@ -146,7 +146,7 @@ fn done<'s, 'c>(
         verifier: u64::from(head.clock.boot),
     }));
     Plan {
-        response: Response::new(reply, &[]),
+        response: Response::new(reply),
         effect: Effect::Writes {
             index,
             at: args.offset,

@@ -113,23 +113,33 @@ fn put_commit(file: &mut DataFile, words: &mut Words<'_>, answer: &mut Answer) {
     }
 }
 
-fn put_read(file: &DataFile, words: &mut Words<'_>, answer: &mut Answer) {
+fn put_read(alloc: Global, file: &DataFile, words: &mut Words<'_>, answer: &mut Answer) {
     let at = words.number64();
     let count = words.number32();
-    if words.end() {
-        answer.bytes(file.read(at, count));
+    if !words.end() {
+        return;
+    }
+    match file.read(at, count).to_data(alloc) {
+        Ok(bytes) => answer.bytes(bytes.bytes()),
+        Err(_) => answer.want_memory(),
     }
 }
 
 /// Makes a call on a file.
-fn put_call(file: &mut DataFile, name: &str, words: &mut Words<'_>, answer: &mut Answer) {
+fn put_call(
+    alloc: Global,
+    file: &mut DataFile,
+    name: &str,
+    words: &mut Words<'_>,
+    answer: &mut Answer,
+) {
     match name {
         "new" => answer.word("Ok"),
         "write" => put_write(file, words, answer),
         "commit" => put_commit(file, words, answer),
         "set" => put_set(file, words, answer),
         "restart" => put_restart(file, words, answer),
-        "read" => put_read(file, words, answer),
+        "read" => put_read(alloc, file, words, answer),
         _ => answer.refuse(),
     }
 }
@@ -152,10 +162,11 @@ impl Part for DataFileRows {
         if name == "new" {
             self.begin(words);
         }
+        let alloc = self.alloc;
         match &mut self.file {
             None => answer.refuse(),
             Some(file) => {
-                put_call(file, name, words, answer);
+                put_call(alloc, file, name, words, answer);
                 put_state(file, answer);
             }
         }

@@ -7,6 +7,7 @@ use part_mds::{FileRows, OpensRows, OperationRows};
 use part_mds_bytes::{MdsReceiveRows, RecallCallsRows};
 use part_messages::MessageRows;
 use part_nodes::{ClientRows, DataFileRows, MdsRows, ServerRows, StoreRows};
+use part_pages::PagesRows;
 use part_runs::{ConfigRows, LineRows, RunRows};
 use part_state::{
     CbSlotRows, CopyRows, ExtentsRows, FenceRows, FileStateRows, MdsReadRows, MdsWriteRows,
@@ -41,6 +42,7 @@ fn on_state<V: Player>(alloc: Global, kind: &str, player: &mut V) -> bool {
         "mdswrite" => on(player, MdsWriteRows::new()),
         "mirrors" => on(player, MirrorsRows::new()),
         "opens" => on(player, OpensRows::new()),
+        "pages" => on(player, PagesRows::new(alloc)),
         "recalls" => on(player, RecallRows::new()),
         "sessions" => on(player, SessionsRows::new(alloc)),
         "writer" => on(player, WriterRows::new()),

@@ -1,25 +1,23 @@
-use Rattle.std.proofs.Common.{◌≡◌, List, map, refl, sym, subst}
-use Rattle.std.proofs.lemmas.Result.{IfOk-weaker}
-use Rattle.std.proofs.lemmas.List.{length-map}
-use Rattle.cluster_model.specs.Content.{Pending}
-use Rattle.ff_xdr.specs.Form.{Fits}
+use Rattle.std.proofs.Common.{◌≡◌, ℕ, ◌++◌, List, map, refl, ap, ◌∙◌, arith}
+use Rattle.std.proofs.lemmas.List.{length-append, length-map}
+use Rattle.ff_xdr.specs.Form.{spelling}
 use Rattle.ds_log.specs.Bodies.{Logged, HoldsBytes, body_form, body_value}
-use Rattle.ds_log.specs.PlainBodies.{plain_ranges}
-use Rattle.ds_log.specs.PlainRanges.{plain_range}
-use Rattle.ds_changes.proofs.BodySizes.{few_count, bytes_fit, bytes_short, spells, made_ranges}
+use Rattle.ds_changes.specs.HeldRanges.{plain_held}
+use Rattle.ds_changes.specs.Logging.{own_of}
+use Rattle.ds_changes.proofs.BodySizes.{few_count, bytes_fit, bytes_short, spelled_as, spells}
 use Rattle.ds_changes.proofs.body.bytes_held.Goals as goal
 
-pub made-items-requires : goal.made-items-requires
-made-items-requires c = rw length-map at (few_count (map plain_range c.args.ranges.now) c.requires.few)
-
-pub spelled-requires : goal.spelled-requires
-spelled-requires c =
-    let are : plain_ranges c.made-items.result.place ≡ map plain_range c.args.ranges.now = made_ranges c.made-items.result.place c.args.ranges.now c.made-items.ensures in
-    subst (λ (rs : List Pending). Fits body_form (body_value (HoldsBytes c.args.fileid c.args.mtime c.args.ctime rs))) (sym are) (bytes_fit c.args.fileid c.args.mtime c.args.ctime (map plain_range c.args.ranges.now) c.requires.few c.ranges.fileid.fits c.requires.mtime c.requires.ctime)
+pub put_held-requires-clause-count : goal.put_held-requires-clause-count
+put_held-requires-clause-count c =
+    let held = map plain_held c.args.ranges.now in
+    let own = own_of c.args.own in
+    omega (arith, few_count (held ++ own) c.requires.few, length-append held own, length-map c.args.ranges.now plain_held)
 
 pub returns : goal.returns
 returns c =
-    let are : plain_ranges c.made-items.result.place ≡ map plain_range c.args.ranges.now = made_ranges c.made-items.result.place c.args.ranges.now c.made-items.ensures in
-    let body : Logged = HoldsBytes c.args.fileid c.args.mtime c.args.ctime (map plain_range c.args.ranges.now) in
-    let made = rw are at c.spelled.ensures in
-    IfOk-weaker c.spelled.result _ _ (λ bytes is. spells (λ (b : Logged). b ≡ body) body bytes.items refl (bytes_short c.args.fileid c.args.mtime c.args.ctime (map plain_range c.args.ranges.now) c.requires.few) is) made
+    let a = c.args in
+    let all = map plain_held a.ranges.now ++ own_of a.own in
+    let body : Logged = HoldsBytes a.fileid a.mtime a.ctime all in
+    let is : c.into_bytes.result.items ≡ spelling body_form (body_value body) = c.into_bytes.ensures ∙ c.in_ok-put_held.ensures ∙ ap (λ (old : List ℕ). old ++ spelling body_form (body_value body)) c.new-out.ensures in
+    let fits = bytes_fit a.fileid a.mtime a.ctime all c.requires.few c.ranges.fileid.fits c.requires.mtime c.requires.ctime in
+    spells (λ (b : Logged). b ≡ body) body c.into_bytes.result.items refl (bytes_short a.fileid a.mtime a.ctime all c.requires.few) (spelled_as body c.into_bytes.result.items fits is)

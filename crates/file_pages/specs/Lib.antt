@@ -1,0 +1,4 @@
+pub mod Pages
+pub mod Parts
+pub mod Places
+pub mod Steps
