@@ -4,31 +4,31 @@ use Rattle.std.proofs.Common.{◌≡◌, Result, Ok, Err, ℕ, ◌+◌, ◌<◌,
 use Rattle.std.proofs.lemmas.List.{length_push}
 use Rattle.cluster_model.specs.Content.{Pending, overlay, overlay_all, joined, settled}
 use Rattle.cluster_model.proofs.Placing.{overlay_all_push}
-use Rattle.file_pages.specs.Pages.{PagesValue, first_bytes, byte_at, byte_over, bytes_of, bytes_over, AreZerosBehind, IsEmpty, AreSame, IsWritten, HasAdopted}
+use Rattle.file_pages.specs.Pages.{PagesValue, first_bytes, byte_at, byte_over, bytes_of, bytes_over, AreZerosBehind, IsEmpty, HaveSamePages, IsWrittenOver, HasAdopted}
 use Rattle.file_pages.proofs.PageBytes.{no_bytes, length_first_bytes, bytes_written, zeros_written, bytes_adopted, zeros_adopted, bytes_alone, bytes_on_none, zeros_turned, zeros_turned_back}
 use Rattle.data_file.specs.Paged.{no_pages, IsStored, IsPaged}
 
 -- ---- pages that are the same
 
-pub are_same : (p : PagesValue) → AreSame p p
+pub are_same : (p : PagesValue) → HaveSamePages p p
 are_same p = record { size = refl; kept = refl }
 
-pub same_bytes : (old new : PagesValue) → AreSame old new → bytes_of new ≡ bytes_of old
+pub same_bytes : (old new : PagesValue) → HaveSamePages old new → bytes_of new ≡ bytes_of old
 same_bytes old new s = rw (s.size, s.kept) refl
 
-same_over : (s d s2 d2 : PagesValue) → AreSame s s2 → AreSame d d2 → bytes_over s2 d2 ≡ bytes_over s d
+same_over : (s d s2 d2 : PagesValue) → HaveSamePages s s2 → HaveSamePages d d2 → bytes_over s2 d2 ≡ bytes_over s d
 same_over s d s2 d2 a b = rw (a.size, a.kept, b.size, b.kept) refl
 
-pub same_zeros : (s d s2 d2 : PagesValue) → AreSame s s2 → AreSame d d2 → AreZerosBehind s d → AreZerosBehind s2 d2
+pub same_zeros : (s d s2 d2 : PagesValue) → HaveSamePages s s2 → HaveSamePages d d2 → AreZerosBehind s d → AreZerosBehind s2 d2
 same_zeros s d s2 d2 a b zeros = rw (a.size, a.kept, b.size, b.kept) zeros
 
-none_same : (d none : PagesValue) → IsEmpty d → IsEmpty none → AreSame d none
+none_same : (d none : PagesValue) → IsEmpty d → IsEmpty none → HaveSamePages d none
 none_same d none e f = record { size = f.0 ∙ sym e.0; kept = f.1 ∙ sym e.1 }
 
 no_pages_empty : IsEmpty no_pages
 no_pages_empty = (refl, refl)
 
-pub stored_same : (s s2 : PagesValue) → AreSame s s2 → IsStored s → IsStored s2
+pub stored_same : (s s2 : PagesValue) → HaveSamePages s s2 → IsStored s → IsStored s2
 stored_same s s2 a stored = same_zeros s no_pages s2 no_pages a (are_same no_pages) stored
 
 -- ---- nothing pending
@@ -58,7 +58,7 @@ shown_length s d ws p = ap length (sym p.shown) ∙ length_first_bytes (byte_ove
 
 -- ---- an error, which leaves pages the same
 
-pub paged_same : (s d s2 d2 : PagesValue) (ws : List Pending) → AreSame s s2 → AreSame d d2 → s.room ≤ s2.room → IsPaged s d ws → IsPaged s2 d2 ws
+pub paged_same : (s d s2 d2 : PagesValue) (ws : List Pending) → HaveSamePages s s2 → HaveSamePages d d2 → s.room ≤ s2.room → IsPaged s d ws → IsPaged s2 d2 ws
 paged_same s d s2 d2 ws a b grows p = record {
   shown = same_over s d s2 d2 a b ∙ p.shown ∙ ap (λ (xs : List ℕ). overlay_all xs ws) (sym (same_bytes s s2 a));
   zeros = same_zeros s d s2 d2 a b p.zeros;
@@ -68,7 +68,7 @@ paged_same s d s2 d2 ws a b grows p = record {
 }
 
 -- where nothing is pending, the room is no matter
-pub paged_same_clean : (s d s2 : PagesValue) (ws : List Pending) → AreSame s s2 → ws ≡ [] → IsPaged s d ws → IsPaged s2 d ws
+pub paged_same_clean : (s d s2 : PagesValue) (ws : List Pending) → HaveSamePages s s2 → ws ≡ [] → IsPaged s d ws → IsPaged s2 d ws
 paged_same_clean s d s2 ws a none p = paged_none s2 d ws (stored_same s s2 a p.stored) (p.clean none) none
 
 -- ---- a write that is pending
@@ -76,7 +76,7 @@ paged_same_clean s d s2 ws a none p = paged_none s2 d ws (stored_same s s2 a p.s
 push_some : (ws : List Pending) (w : Pending) → ws ++ w ∷ [] ≡ [] → length ws + 1 ≡ 0
 push_some ws w none = sym (length_push ws w) ∙ ap length none
 
-pub paged_taken : (s d s2 d2 : PagesValue) (ws : List Pending) (at : ℕ) (bytes : List ℕ) → 0 < length bytes → AreSame s s2 → IsWritten s2 d at bytes d2 → length d2.kept ≤ s2.room → IsPaged s d ws
+pub paged_taken : (s d s2 d2 : PagesValue) (ws : List Pending) (at : ℕ) (bytes : List ℕ) → 0 < length bytes → HaveSamePages s s2 → IsWrittenOver s2 d at bytes d2 → length d2.kept ≤ s2.room → IsPaged s d ws
     → IsPaged s2 d2 (ws ++ record { at = at; bytes = bytes } ∷ [])
 paged_taken s d s2 d2 ws at bytes some a is room p =
     let zeros = same_zeros s d s2 d a (are_same d) p.zeros in
@@ -99,13 +99,13 @@ settled_bytes s d s2 ws is p = bytes_adopted s d s2 is ∙ p.shown
 
 -- ---- a write that is stable at once, where nothing is pending
 
-pub stored_written : (none s s2 : PagesValue) (at : ℕ) (bytes : List ℕ) → 0 < length bytes → IsEmpty none → IsStored s → IsWritten none s at bytes s2 → IsStored s2
+pub stored_written : (none s s2 : PagesValue) (at : ℕ) (bytes : List ℕ) → 0 < length bytes → IsEmpty none → IsStored s → IsWrittenOver none s at bytes s2 → IsStored s2
 stored_written none s s2 at bytes some e stored is =
     let over : AreZerosBehind s none = same_zeros s no_pages s none (are_same s) (none_same no_pages none no_pages_empty e) stored in
     let behind : AreZerosBehind s2 none = zeros_turned_back s2 none e (zeros_written none s s2 at bytes some (zeros_turned s none e over) is) in
     same_zeros s2 none s2 no_pages (are_same s2) (none_same none no_pages e no_pages_empty) behind
 
-pub written_bytes : (none s s2 : PagesValue) (at : ℕ) (bytes : List ℕ) → 0 < length bytes → IsEmpty none → IsStored s → IsWritten none s at bytes s2 → bytes_of s2 ≡ overlay (bytes_of s) at bytes
+pub written_bytes : (none s s2 : PagesValue) (at : ℕ) (bytes : List ℕ) → 0 < length bytes → IsEmpty none → IsStored s → IsWrittenOver none s at bytes s2 → bytes_of s2 ≡ overlay (bytes_of s) at bytes
 written_bytes none s s2 at bytes some e stored is =
     let over : AreZerosBehind s none = same_zeros s no_pages s none (are_same s) (none_same no_pages none no_pages_empty e) stored in
     sym (bytes_on_none none s2 e)
@@ -113,7 +113,7 @@ written_bytes none s s2 at bytes some e stored is =
     ∙ ap (λ (xs : List ℕ). overlay xs at bytes) (bytes_on_none none s e)
 
 -- so also where the write may have failed
-pub put_stored : {E : Type 0} (none s s2 : PagesValue) (at : ℕ) (bytes : List ℕ) (result : Result (Unit {0}) E) → 0 < length bytes → IsEmpty none → IsStored s → OnOk result (IsWritten none s at bytes s2) → OnErr result (AreSame s s2) → IsStored s2
+pub put_stored : {E : Type 0} (none s s2 : PagesValue) (at : ℕ) (bytes : List ℕ) (result : Result (Unit {0}) E) → 0 < length bytes → IsEmpty none → IsStored s → OnOk result (IsWrittenOver none s at bytes s2) → OnErr result (HaveSamePages s s2) → IsStored s2
 put_stored none s s2 at bytes (Ok done) some e stored is same = stored_written none s s2 at bytes some e stored is
 put_stored none s s2 at bytes (Err error) some e stored is same = stored_same s s2 same stored
 

@@ -1,5 +1,6 @@
 -- A file's bytes as pages: those that are stable, and over them those that pending writes have touched (RFC 1813, section 3.3.7).
-use Rattle.std.specs.Prelude.{◌≡◌, ℕ, ◌-◌, ◌≤◌, List, [], length, take, drop}
+use Rattle.std.specs.Prelude.{◌≡◌, ℕ, ◌-◌, ◌≤◌, List, [], length, take, drop, Option, Some, None}
+use Rattle.std.specs.Borrow.{Bor}
 use Rattle.cluster_model.specs.Content.{Pending, overlay_all}
 use Rattle.file_pages.specs.Pages.{PagesValue, bytes_of, bytes_over, AreZerosBehind, IsEmpty}
 
@@ -9,6 +10,11 @@ place_of w = (w.at, length w.bytes)
 
 abbrev pub no_pages : PagesValue
 no_pages = record { size = 0; kept = []; room = 0 }
+
+-- pages that may stand over others
+abbrev pub upper_of : Option (Bor PagesValue) → PagesValue
+upper_of None = no_pages
+upper_of (Some pages) = pages.now
 
 -- some of the bytes that pages over others show
 abbrev pub part_of : PagesValue → PagesValue → ℕ → ℕ → List ℕ

@@ -3,7 +3,7 @@
 ghost use Rattle.std.specs.Prelude.{◌≡◌, ◌+◌, ◌/◌, ◌<◌, ◌≤◌, [], length, take, drop, OnOk, OnErr, IfOk};
 ghost use Rattle.cluster_model.specs.declared.limits.TheConstants.{MAX_FILE};
 ghost use Rattle.cluster_model.specs.Content.{no_content, shown_of, joined, settled};
-ghost use Rattle.file_pages.specs.Pages.{AreSame, IsWritten};
+ghost use Rattle.file_pages.specs.Pages.{HaveSamePages, IsWrittenOver};
 ghost use Rattle.data_file.specs.Kept.{kept_content};
 
 use crate::keeping::{Kept, PendingWrite};
@@ -30,11 +30,11 @@ fn put_over(
 ) -> Result<(), AllocError>
     requires some { 0 < length bytes.now }
     requires within { at + length bytes.now ≤ MAX_FILE }
-    ensures stable { AreSame stable.old stable.new }
+    ensures stable { HaveSamePages stable.old stable.new }
     ensures grows { stable.old.room ≤ stable.new.room }
-    ensures ok { OnOk result (IsWritten stable.new dirty.old at bytes.now dirty.new) }
+    ensures ok { OnOk result (IsWrittenOver stable.new dirty.old at bytes.now dirty.new) }
     ensures room { OnOk result (length dirty.new.kept ≤ stable.new.room) }
-    ensures err { OnErr result (AreSame dirty.old dirty.new) }
+    ensures err { OnErr result (HaveSamePages dirty.old dirty.new) }
 {
     stable.reserve(dirty.kept() as usize + most_touched(bytes.len()))?;
     dirty.write(stable, at as u64, bytes)
@@ -89,7 +89,25 @@ impl FileContent {
         let size = self.stable.length().max(self.dirty.length());
         let from = at.min(size);
         let end = size.min(from + u64::from(count));
-        FilePart::new(&self.stable, &self.dirty, from, end)
+        FilePart::new(&self.stable, Some(&self.dirty), from, end)
+    }
+
+    /// How many bytes are stable.
+    pub fn stable_size(&self) -> u64
+        ensures exact { result ≡ length self.now.stable }
+        ensures bounded { result ≤ MAX_FILE }
+    {
+        self.stable.length()
+    }
+
+    /// At most `count` of the stable bytes, from the byte `at` on.
+    pub fn stable_part(&self, at: u64, count: u32) -> FilePart<'_>
+        ensures { result ≡ take count (drop at self.now.stable) }
+    {
+        let size = self.stable.length();
+        let from = at.min(size);
+        let end = size.min(from + u64::from(count));
+        FilePart::new(&self.stable, None, from, end)
     }
 
     /// The pending writes, the first first.

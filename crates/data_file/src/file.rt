@@ -2,7 +2,7 @@
 
 ghost use Rattle.std.specs.Prelude.{◌≡◌, true, false, ◌+◌, ◌<◌, ◌≤◌, length, take, drop, OnOk, OnErr, IfOk, IfSome, option_map, slice_get};
 ghost use Rattle.cluster_model.specs.declared.limits.TheConstants.{MAX_FILE};
-ghost use Rattle.cluster_model.specs.Content.{overlay_all, piece_of};
+ghost use Rattle.cluster_model.specs.Content.{no_content, overlay_all, piece_of};
 ghost use Rattle.cluster_model.specs.File.{shown, new_file, all_at, times_after, times_set, time_set, written, committed, set};
 ghost use Rattle.data_file.specs.Kept.{kept_content, IsKeptOf, crashed};
 ghost use Rattle.data_file.specs.Paged.{place_of};
@@ -99,6 +99,20 @@ impl DataFile {
         }
     }
 
+    /// An empty file with these attributes, all of them stable. No memory is taken.
+    pub fn with_times(alloc: Global, owner: u32, group: u32, mode: u32, times: Times) -> DataFile
+        ensures { result ≡ record { content = no_content; owner = owner; group = group; mode = mode; times = times; stable_times = times } }
+    {
+        DataFile {
+            content: FileContent::new(alloc),
+            owner,
+            group,
+            mode,
+            times,
+            stable_times: times,
+        }
+    }
+
     /// How many bytes a reader sees.
     pub fn size(&self) -> u64
         ensures exact { result ≡ length (shown self.now) }
@@ -115,6 +129,21 @@ impl DataFile {
         ensures { result ≡ take count (drop at (shown self.now)) }
     {
         self.content.part(at, count)
+    }
+
+    /// How many bytes are stable.
+    pub fn stable_size(&self) -> u64
+        ensures exact { result ≡ length self.now.content.stable }
+        ensures bounded { result ≤ MAX_FILE }
+    {
+        self.content.stable_size()
+    }
+
+    /// At most `count` of the stable bytes, from the byte `at` on: what a restart that keeps nothing else leaves of them.
+    pub fn stable_part(&self, at: u64, count: u32) -> FilePart<'_>
+        ensures { result ≡ take count (drop at self.now.content.stable) }
+    {
+        self.content.stable_part(at, count)
     }
 
     /// The user that the file belongs to.
@@ -143,6 +172,13 @@ impl DataFile {
         ensures { result ≡ self.now.times }
     {
         self.times
+    }
+
+    /// The times that a restart leaves.
+    pub fn stable_times(&self) -> Times
+        ensures { result ≡ self.now.stable_times }
+    {
+        self.stable_times
     }
 
     /// How many writes are pending.

@@ -4,8 +4,8 @@ ghost use Rattle.std.specs.Prelude.{◌≡◌, ◌+◌, ◌-◌, ◌*◌, ◌<�
 ghost use Rattle.cluster_model.specs.declared.limits.TheConstants.{MAX_FILE};
 ghost use Rattle.ff_xdr.specs.Form.{word, padded};
 ghost use Rattle.ff_xdr.specs.Calls.{Puts};
-ghost use Rattle.file_pages.specs.Pages.{page_over, byte_in, first_bytes, bytes_over};
-ghost use Rattle.data_file.specs.Paged.{part_of};
+ghost use Rattle.file_pages.specs.Pages.{kept_page, page_over, byte_in, first_bytes};
+ghost use Rattle.data_file.specs.Paged.{part_of, upper_of};
 
 use ff_xdr::{Data, NoMemory, Out};
 use file_pages::Pages;
@@ -25,12 +25,23 @@ fn zeros(count: usize) -> &'static [u8]
     &ZEROS[..count]
 }
 
-/// The page of a number: that of the upper pages, or else that of the lower ones.
-fn page_over<'f>(stable: &'f Pages, dirty: &'f Pages, number: u64) -> Option<&'f [u8]>
-    ensures exact { option_map (λ page. page.now) result ≡ page_over stable.now.kept dirty.now.kept number }
+/// The page of a number among the upper pages, where there are such.
+fn upper_page(dirty: Option<&Pages>, number: u64) -> Option<&[u8]>
+    ensures exact { option_map (λ page. page.now) result ≡ kept_page number (upper_of dirty.entry).kept }
     ensures whole { IfSome result (λ page. length page.now ≡ 4096) }
 {
-    match dirty.page(number) {
+    match dirty {
+        Some(pages) => pages.page(number),
+        None => None,
+    }
+}
+
+/// The page of a number: that of the upper pages, or else that of the lower ones.
+fn page_over<'f>(stable: &'f Pages, dirty: Option<&'f Pages>, number: u64) -> Option<&'f [u8]>
+    ensures exact { option_map (λ page. page.now) result ≡ page_over stable.now.kept (upper_of dirty.entry).kept number }
+    ensures whole { IfSome result (λ page. length page.now ≡ 4096) }
+{
+    match upper_page(dirty, number) {
         Some(page) => Some(page),
         None => stable.page(number),
     }
@@ -51,14 +62,14 @@ fn put_page(page: Option<&[u8]>, from: usize, count: usize, out: &mut Out) -> Re
 /// Appends what the pages show from one place to another. An error may leave a part.
 fn put_pages(
     stable: &Pages,
-    dirty: &Pages,
+    dirty: Option<&Pages>,
     from: u64,
     end: u64,
     out: &mut Out,
 ) -> Result<(), NoMemory>
-    requires within { end ≤ max stable.now.size dirty.now.size }
+    requires within { end ≤ max stable.now.size (upper_of dirty.entry).size }
     requires bounded { end ≤ MAX_FILE }
-    ensures ok { OnOk result (out.new ≡ out.old ++ part_of stable.now dirty.now from end) }
+    ensures ok { OnOk result (out.new ≡ out.old ++ part_of stable.now (upper_of dirty.entry) from end) }
     ensures err { OnErr result (take (length out.old) out.new ≡ out.old) }
 {
     let mut at = from;
@@ -76,11 +87,12 @@ fn put_pages(
     Ok(())
 }
 
-/// Some of the bytes that a reader sees, which stand in the file's pages.
+/// Some of a file's bytes, which stand in its pages: of those that a reader sees, or of the stable ones.
 #[derive(Drop)]
 pub struct FilePart<'f> {
     stable: &'f Pages,
-    dirty: &'f Pages,
+    // the pages over them, where these are shown too
+    dirty: Option<&'f Pages>,
     // the places of the first byte and of the first behind it
     from: u64,
     end: u64,
@@ -89,22 +101,27 @@ pub struct FilePart<'f> {
 impl<'f> Model for FilePart<'f> {
     ghost use Rattle.std.specs.Prelude.{List, ℕ, ◌≤◌, max};
     ghost use Rattle.cluster_model.specs.declared.limits.TheConstants.{MAX_FILE};
-    ghost use Rattle.data_file.specs.Paged.{part_of};
+    ghost use Rattle.data_file.specs.Paged.{part_of, upper_of};
 
     ghost Value = { List ℕ };
 
-    ghost view = { λ p. part_of p.stable.now p.dirty.now p.from p.end };
+    ghost view = { λ p. part_of p.stable.now (upper_of p.dirty) p.from p.end };
 
-    ghost invariant = { λ p. (p.from ≤ p.end) × (p.end ≤ max p.stable.now.size p.dirty.now.size) × (p.end ≤ MAX_FILE) };
+    ghost invariant = { λ p. (p.from ≤ p.end) × (p.end ≤ max p.stable.now.size (upper_of p.dirty).size) × (p.end ≤ MAX_FILE) };
 }
 
 impl<'f> FilePart<'f> {
     /// From one place to another of what the pages show.
-    pub(crate) fn new(stable: &'f Pages, dirty: &'f Pages, from: u64, end: u64) -> FilePart<'f>
+    pub(crate) fn new(
+        stable: &'f Pages,
+        dirty: Option<&'f Pages>,
+        from: u64,
+        end: u64,
+    ) -> FilePart<'f>
         requires order { from ≤ end }
-        requires within { end ≤ max stable.now.size dirty.now.size }
+        requires within { end ≤ max stable.now.size (upper_of dirty.entry).size }
         requires bounded { end ≤ MAX_FILE }
-        ensures { result ≡ part_of stable.entry.now dirty.entry.now from end }
+        ensures { result ≡ part_of stable.entry.now (upper_of dirty.entry) from end }
     {
         FilePart {
             stable,
@@ -142,6 +159,7 @@ impl<'f> FilePart<'f> {
         ensures err { OnErr result (take (length out.old) out.new ≡ out.old) }
     {
         let count = self.count();
+        out.reserve(count as usize + 8)?;
         out.number32(count)?;
         self.grow(out)?;
         out.raw(zeros(((4 - count % 4) % 4) as usize))
@@ -172,6 +190,7 @@ impl<'f> FilePart<'f> {
         ensures { IfOk result (λ bytes. bytes ≡ self.now) }
     {
         let mut out = Out::new(alloc);
+        out.reserve(self.len())?;
         self.grow(&mut out)?;
         Ok(Data::from_vec(out.into_bytes()))
     }

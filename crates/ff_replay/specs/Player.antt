@@ -257,11 +257,11 @@ line_said (line.Setup chosen) = SetsUp chosen
 line_said (line.Event e) = Happens (event_said e)
 
 -- an event is one of a setup
-abbrev pub IsEventOf : Setup → Event → Type 0
-IsEventOf Bare (event.Bare e) = ⊤
-IsEventOf Bare (event.Cluster e) = ⊥
-IsEventOf (Cluster sizes) (event.Bare e) = ⊥
-IsEventOf (Cluster sizes) (event.Cluster e) = IsOfScript (cluster_event e)
+abbrev pub IsEventIn : Setup → Event → Type 0
+IsEventIn Bare (event.Bare e) = ⊤
+IsEventIn Bare (event.Cluster e) = ⊥
+IsEventIn (Cluster sizes) (event.Bare e) = ⊥
+IsEventIn (Cluster sizes) (event.Cluster e) = IsOfScript (cluster_event e)
 
 -- a line is one that may stand behind a setup, or before any
 abbrev pub IsLineOf : Option Setup → Line → Type 0
@@ -269,7 +269,7 @@ IsLineOf setup line.Nothing = ⊤
 IsLineOf None (line.Setup chosen) = IsSetup chosen
 IsLineOf (Some setup) (line.Setup chosen) = ⊥
 IsLineOf None (line.Event e) = ⊥
-IsLineOf (Some setup) (line.Event e) = IsEventOf setup e
+IsLineOf (Some setup) (line.Event e) = IsEventIn setup e
 
 -- ---- the nodes of a world, where it has them
 

@@ -10,7 +10,7 @@ ghost use Rattle.world_rule.specs.ClusterWorlds.{cluster_step};
 ghost use Rattle.cluster_world.specs.WorldSteps.{IsOfScript};
 ghost use Rattle.ff_world.specs.World.{world_step};
 ghost use Rattle.ff_replay.specs.Script.{setup_of_world, entries_in, journal_in, world_of};
-ghost use Rattle.ff_replay.specs.Player.{PlayerPlays, IsSetup, IsEventOf, script_world, spent_by, player_at, at_bare, at_cluster, event_said, mds_in, server_in, client_in, is_flow, flowed, flowed_in, bare_goes, cluster_goes, cluster_played, event_played, played};
+ghost use Rattle.ff_replay.specs.Player.{PlayerPlays, IsSetup, IsEventIn, script_world, spent_by, player_at, at_bare, at_cluster, event_said, mds_in, server_in, client_in, is_flow, flowed, flowed_in, bare_goes, cluster_goes, cluster_played, event_played, played};
 
 use crate::line::{Event, Line, is_flow, parse_line};
 use crate::setup::Setup;
@@ -200,16 +200,18 @@ impl World {
         event: &Event<'_>,
         text: &mut Out,
     ) -> Result<LineStep, NoMemory>
-        requires { IsEventOf (setup_of_world (script_world self.old)) event.now }
+        requires { IsEventIn (setup_of_world (script_world self.old)) event.now }
         ensures does { spent_by self.old ≡ None → PlayerPlays mode (player_at self.old text.old) (event_played (script_world self.old) (event_said event.now)) result (player_at self.new text.new) }
         ensures spent { spent_by self.old ≢ None → self.new ≡ self.old }
     {
         match self {
             World::Bare(world) => match event {
                 Event::Bare(event) => happen(mode, world, event, text),
+                // (no line of this setup is read as one)
                 Event::Cluster(_) => Ok(LineStep::Outside),
             },
             World::Cluster(_, world) => match event {
+                // (nor here as one of these)
                 Event::Bare(_) => Ok(LineStep::Outside),
                 Event::Cluster(event) => act_or_flow(mode, world, event, text),
             },

@@ -113,6 +113,14 @@ impl Out {
         Ok(())
     }
 
+    /// Makes room for this many bytes more, so that appending them takes no memory; nothing that was collected changes.
+    pub fn reserve(&mut self, more: usize) -> Result<(), NoMemory>
+        ensures { self.new ≡ self.old }
+    {
+        self.bytes.reserve(more)?;
+        Ok(())
+    }
+
     /// Cuts what was collected back to its first `length` bytes.
     pub fn truncate(&mut self, length: usize)
         ensures { self.new ≡ take length self.old }

@@ -5,7 +5,7 @@ use Rattle.std.proofs.lemmas.Bool.Decides.{nat_tests}
 use Rattle.std.proofs.lemmas.List.{ext_get_or, length_push, get_or_push, get_or_append_left, get_or_past}
 use Rattle.cluster_model.specs.Content.{overlay}
 use Rattle.cluster_model.proofs.Placing.{length-overlay, get_or-overlay_outside, get_or-overlay_inside}
-use Rattle.file_pages.specs.Pages.{PagesValue, kept_page, or_else, byte_in, byte_at, byte_over, page_over, first_bytes, bytes_of, bytes_over, touches, byte_written, AreZerosBehind, IsEmpty, IsWritten, HasAdopted}
+use Rattle.file_pages.specs.Pages.{PagesValue, kept_page, or_else, byte_in, byte_at, byte_over, page_over, first_bytes, bytes_of, bytes_over, touches, byte_written, AreZerosBehind, IsEmpty, IsWrittenOver, HasAdopted}
 
 -- ---- the first values of a function
 
@@ -83,7 +83,7 @@ which : (at count place : ℕ) → ((at ≤ place) × (place < at + count)) ⊎ 
 which at count place =
     ⊎_elim (λ before. inr (inl before)) (λ from. ⊎_elim (λ below. inl (from, below)) (λ behind. inr (inr behind)) (cases_lt place (at + count))) (cases_lt place at)
 
-module _ (base old new : PagesValue) (at : ℕ) (bytes : List ℕ) (is : IsWritten base old at bytes new) where
+module _ (base old new : PagesValue) (at : ℕ) (bytes : List ℕ) (is : IsWrittenOver base old at bytes new) where
   -- the page of a place, where it is touched
   page_touched : (place : ℕ) → touches at (length bytes) (place / 4096) ≡ true → byte_over base.kept new.kept place ≡ byte_written (page_over base.kept old.kept (place / 4096)) (place / 4096) at bytes (place % 4096)
   page_touched place touched =
@@ -132,7 +132,7 @@ overlaid : (xs : List ℕ) (at : ℕ) (bytes : List ℕ) → 0 < length bytes �
 overlaid xs at [] some = absurd (omega (arith, some))
 overlaid xs at (b ∷ bytes) some = length-overlay xs at b bytes
 
-pub bytes_written : (base old new : PagesValue) (at : ℕ) (bytes : List ℕ) → 0 < length bytes → AreZerosBehind base old → IsWritten base old at bytes new → bytes_over base new ≡ overlay (bytes_over base old) at bytes
+pub bytes_written : (base old new : PagesValue) (at : ℕ) (bytes : List ℕ) → 0 < length bytes → AreZerosBehind base old → IsWrittenOver base old at bytes new → bytes_over base new ≡ overlay (bytes_over base old) at bytes
 bytes_written base old new at bytes some zeros is =
     let before = length_first_bytes (byte_over base.kept old.kept) (max base.size old.size) in
     let size = is.size in
@@ -140,7 +140,7 @@ bytes_written base old new at bytes some zeros is =
     sym (is_first_bytes (byte_over base.kept new.kept) (overlay (bytes_over base old) at bytes) (λ place less. sym (byte_is base old new at bytes is zeros place))
     ∙ ap (first_bytes (byte_over base.kept new.kept)) long)
 
-pub zeros_written : (base old new : PagesValue) (at : ℕ) (bytes : List ℕ) → 0 < length bytes → AreZerosBehind base old → IsWritten base old at bytes new → AreZerosBehind base new
+pub zeros_written : (base old new : PagesValue) (at : ℕ) (bytes : List ℕ) → 0 < length bytes → AreZerosBehind base old → IsWrittenOver base old at bytes new → AreZerosBehind base new
 zeros_written base old new at bytes some zeros is place behind =
     let size = is.size in
     byte_outside base old new at bytes is place (inr (omega (arith, size, behind))) ∙ zeros place (omega (arith, size, behind))

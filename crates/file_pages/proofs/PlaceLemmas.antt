@@ -7,7 +7,7 @@ use Rattle.std.proofs.lemmas.Bool.Decides.{nat_tests}
 use Rattle.std.proofs.lemmas.List.{take-append-drop, length-take, length-drop, get_or-take, get_or-drop, drop-drop, drop_all, get_or_default}
 use Rattle.std.proofs.lemmas.Option.{slice_get_read, slice_get_past}
 use Rattle.file_pages.specs.Pages.{RiseFrom, kept_page}
-use Rattle.file_pages.specs.Places.{AreBelow, IsPlaceOf}
+use Rattle.file_pages.specs.Places.{AreNumberedBelow, IsPagePlace}
 
 abbrev pub Numbered : Type 0
 Numbered = ℕ × List ℕ
@@ -47,15 +47,15 @@ rise_here least number (page ∷ pages) rise first = (first page (omega arith), 
 
 -- ---- numbers that are below one
 
-pub below_by : (number : ℕ) (pages : List Numbered) → ((i : ℕ) (d : Numbered) → i < length pages → (get_or pages i d).0 < number) → AreBelow number pages
+pub below_by : (number : ℕ) (pages : List Numbered) → ((i : ℕ) (d : Numbered) → i < length pages → (get_or pages i d).0 < number) → AreNumberedBelow number pages
 below_by number [] each = tt
 below_by number (page ∷ pages) each = (each 0 page (omega arith), below_by number pages (λ i d less. each (suc i) d (omega (arith, less))))
 
-pub below_append : (number : ℕ) (front back : List Numbered) → AreBelow number front → AreBelow number back → AreBelow number (front ++ back)
+pub below_append : (number : ℕ) (front back : List Numbered) → AreNumberedBelow number front → AreNumberedBelow number back → AreNumberedBelow number (front ++ back)
 below_append number [] back below more = more
 below_append number (page ∷ front) back below more = (below.0, below_append number front back below.1 more)
 
-pub below_weaker : (low high : ℕ) (pages : List Numbered) → low ≤ high → AreBelow low pages → AreBelow high pages
+pub below_weaker : (low high : ℕ) (pages : List Numbered) → low ≤ high → AreNumberedBelow low pages → AreNumberedBelow high pages
 below_weaker low high [] less below = tt
 below_weaker low high (page ∷ pages) less below = let first = below.0 in (omega (arith, less, first), below_weaker low high pages less below.1)
 
@@ -71,7 +71,7 @@ take_sum (suc m) n [] = take_nil (suc m + n) ∙ sym (take_nil n)
     take_nil (suc k) = refl
 take_sum (suc m) n (page ∷ pages) = ap (λ k. take k (page ∷ pages)) (let e : suc m + n ≡ suc (m + n) = omega arith in e) ∙ ap (λ (ps : List Numbered). page ∷ ps) (take_sum m n pages)
 
-pub point_is : (number : ℕ) (pages : List Numbered) (place : ℕ) → RiseFrom 0 pages → place ≤ length pages → IsPartitionPoint (λ (page : Numbered). nat_lt page.0 number ≡ true) (λ (page : Numbered). nat_lt page.0 number ≡ false) pages place → IsPlaceOf number pages place
+pub point_is : (number : ℕ) (pages : List Numbered) (place : ℕ) → RiseFrom 0 pages → place ≤ length pages → IsPartitionPoint (λ (page : Numbered). nat_lt page.0 number ≡ true) (λ (page : Numbered). nat_lt page.0 number ≡ false) pages place → IsPagePlace number pages place
 point_is number pages place rise within point = record {
   within = within;
   below = below_by number (take place pages) (λ i d less.
@@ -83,7 +83,7 @@ point_is number pages place rise within point = record {
 }
 
 -- behind all others
-pub place_last : (number : ℕ) (pages : List Numbered) (page : Numbered) → RiseFrom 0 pages → 0 < length pages → page ≡ get_or pages (length pages - 1) page → page.0 < number → IsPlaceOf number pages (length pages)
+pub place_last : (number : ℕ) (pages : List Numbered) (page : Numbered) → RiseFrom 0 pages → 0 < length pages → page ≡ get_or pages (length pages - 1) page → page.0 < number → IsPagePlace number pages (length pages)
 place_last number pages page rise some last less = record {
   within = omega arith;
   below = below_by number (take (length pages) pages) (λ i d early.
@@ -96,7 +96,7 @@ place_last number pages page rise some last less = record {
 }
 
 -- at once, where the page that stands there is not below
-pub place_here : (number : ℕ) (pages : List Numbered) (from : ℕ) (page : Numbered) → RiseFrom 0 pages → AreBelow number (take from pages) → from < length pages → page ≡ get_or pages from page → number ≤ page.0 → IsPlaceOf number pages from
+pub place_here : (number : ℕ) (pages : List Numbered) (from : ℕ) (page : Numbered) → RiseFrom 0 pages → AreNumberedBelow number (take from pages) → from < length pages → page ≡ get_or pages from page → number ≤ page.0 → IsPagePlace number pages from
 place_here number pages from page rise below within there least = record {
   within = omega (arith, within);
   below = below;
@@ -106,12 +106,12 @@ place_here number pages from page rise below within there least = record {
 }
 
 -- further on
-pub place_further : (number : ℕ) (pages : List Numbered) (from more : ℕ) → AreBelow number (take from pages) → from ≤ length pages → IsPlaceOf number (drop from pages) more → IsPlaceOf number pages (from + more)
+pub place_further : (number : ℕ) (pages : List Numbered) (from more : ℕ) → AreNumberedBelow number (take from pages) → from ≤ length pages → IsPagePlace number (drop from pages) more → IsPagePlace number pages (from + more)
 place_further number pages from more below within is =
     let inside = is.within in
     record {
       within = omega (arith, inside, length-drop from pages, within);
-      below = subst (λ (ps : List Numbered). AreBelow number ps) (sym (take_sum from more pages)) (below_append number (take from pages) (take more (drop from pages)) below is.below);
+      below = subst (λ (ps : List Numbered). AreNumberedBelow number ps) (sym (take_sum from more pages)) (below_append number (take from pages) (take more (drop from pages)) below is.below);
       behind = subst (λ (ps : List Numbered). RiseFrom number ps) (drop-drop more from pages) is.behind;
     }
 
@@ -126,7 +126,7 @@ kept_above number least (page ∷ pages) rise less =
     grind (arith, nat_tests)
 
 -- nor one that all are below
-pub kept_behind : (number : ℕ) (front back : List Numbered) → AreBelow number front → kept_page number (front ++ back) ≡ kept_page number back
+pub kept_behind : (number : ℕ) (front back : List Numbered) → AreNumberedBelow number front → kept_page number (front ++ back) ≡ kept_page number back
 kept_behind number [] back below = refl
 kept_behind number (page ∷ front) back below =
     let first = below.0 in
@@ -152,7 +152,7 @@ get_dropped zero pages = refl
 get_dropped (suc place) [] = refl
 get_dropped (suc place) (page ∷ pages) = get_dropped place pages
 
-pub kept_at : (number : ℕ) (pages : List Numbered) (place : ℕ) → IsPlaceOf number pages place → kept_page number pages ≡ numbered_at number (slice_get pages place)
+pub kept_at : (number : ℕ) (pages : List Numbered) (place : ℕ) → IsPagePlace number pages place → kept_page number pages ≡ numbered_at number (slice_get pages place)
 kept_at number pages place is =
     ap (kept_page number) (sym (take-append-drop place pages))
     ∙ kept_behind number (take place pages) (drop place pages) is.below
@@ -160,7 +160,7 @@ kept_at number pages place is =
     ∙ ap (numbered_at number) (get_dropped place pages)
 
 -- what a look at a number's place tells
-module _ (number : ℕ) (pages : List Numbered) (place : ℕ) (is : IsPlaceOf number pages place) where
+module _ (number : ℕ) (pages : List Numbered) (place : ℕ) (is : IsPagePlace number pages place) where
   pub found_page : (page : Numbered) → place < length pages → page ≡ get_or pages place page → page.0 ≡ number → kept_page number pages ≡ Some page.1
   found_page page within there same =
       let got : slice_get pages place ≡ Some page = slice_get_read pages (length pages) place page refl within there in

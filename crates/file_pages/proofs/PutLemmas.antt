@@ -7,7 +7,7 @@ use Rattle.std.proofs.lemmas.Bool.Decides.{nat_tests}
 use Rattle.std.proofs.lemmas.List.{take-append-drop, length-take, length-drop, length-append, take_at, append_assoc, set_split, reverse-append, take_more, get_or_default}
 use Rattle.std.proofs.lemmas.Option.{slice_get_read}
 use Rattle.file_pages.specs.Pages.{RiseFrom, AreWhole, kept_page, or_else, page_over}
-use Rattle.file_pages.specs.Places.{AreKept, AreBelow, AreBelowFirst, IsPlaceOf, is_numbered}
+use Rattle.file_pages.specs.Places.{AreSoundPages, AreNumberedBelow, AreNumberedBelowFirst, IsPagePlace, is_numbered}
 use Rattle.file_pages.specs.Steps.{HasPut}
 use Rattle.file_pages.proofs.PlaceLemmas.{Numbered, rise_weaker, kept_above, kept_behind, kept_at, numbered_at, below_append, below_weaker, get_dropped}
 
@@ -33,18 +33,18 @@ pub put_other : (number : ℕ) (page : Numbered) (front rest back : List Numbere
 put_other number page [] rest back other same = grind (arith, nat_tests)
 put_other number page (first ∷ front) rest back other same = ap (λ (later : Option (List ℕ)). if first.0 == number then Some first.1 else later) (put_other number page front rest back other same)
 
-put_same : (number : ℕ) (page : Numbered) (front rest : List Numbered) → page.0 ≡ number → AreBelow page.0 front → kept_page number (front ++ page ∷ rest) ≡ Some page.1
+put_same : (number : ℕ) (page : Numbered) (front rest : List Numbered) → page.0 ≡ number → AreNumberedBelow page.0 front → kept_page number (front ++ page ∷ rest) ≡ Some page.1
 put_same number page front rest same below =
-    kept_behind number front (page ∷ rest) (subst (λ n. AreBelow n front) same below) ∙ grind (arith, nat_tests)
+    kept_behind number front (page ∷ rest) (subst (λ n. AreNumberedBelow n front) same below) ∙ grind (arith, nat_tests)
 
-pub rise_put : (least : ℕ) (page : Numbered) (front back rest : List Numbered) → RiseFrom least (front ++ back) → AreBelow page.0 front → least ≤ page.0 → RiseFrom (page.0 + 1) rest → RiseFrom least (front ++ page ∷ rest)
+pub rise_put : (least : ℕ) (page : Numbered) (front back rest : List Numbered) → RiseFrom least (front ++ back) → AreNumberedBelow page.0 front → least ≤ page.0 → RiseFrom (page.0 + 1) rest → RiseFrom least (front ++ page ∷ rest)
 rise_put least page [] back rest rise below less more = (less, more)
 rise_put least page (first ∷ front) back rest rise below less more =
     let before = below.0 in
     (rise.0, rise_put (first.0 + 1) page front back rest rise.1 below.1 (omega (arith, before)) more)
 
 -- what is left behind the place, and what it has of the numbers
-module _ (page : Numbered) (pages : List Numbered) (place : ℕ) (is : IsPlaceOf page.0 pages place) (kept : AreKept pages) (whole : length page.1 ≡ 4096) (rest : List Numbered) (fewer : length rest ≤ length pages - place) (rest_rise : RiseFrom (page.0 + 1) rest) (rest_whole : AreWhole rest) (rest_same : (number : ℕ) → (page.0 ≡ number → ⊥) → kept_page number (drop place pages) ≡ kept_page number rest) where
+module _ (page : Numbered) (pages : List Numbered) (place : ℕ) (is : IsPagePlace page.0 pages place) (kept : AreSoundPages pages) (whole : length page.1 ≡ 4096) (rest : List Numbered) (fewer : length rest ≤ length pages - place) (rest_rise : RiseFrom (page.0 + 1) rest) (rest_whole : AreWhole rest) (rest_same : (number : ℕ) → (page.0 ≡ number → ⊥) → kept_page number (drop place pages) ≡ kept_page number rest) where
   abbrev put_list : List Numbered
   put_list = take place pages ++ page ∷ rest
 
@@ -73,7 +73,7 @@ module _ (page : Numbered) (pages : List Numbered) (place : ℕ) (is : IsPlaceOf
         let front : take (place + 1) put_list ≡ take place pages ++ page ∷ [] =
         ap (take (place + 1)) (sym (append_assoc (take place pages) (page ∷ []) rest))
         ∙ take_at (take place pages ++ page ∷ []) rest (place + 1) (omega (arith, size, length-append (take place pages) (page ∷ []))) in
-        subst (λ (ps : List Numbered). AreBelow (page.0 + 1) ps) (sym front) (below_append (page.0 + 1) (take place pages) (page ∷ []) (below_weaker page.0 (page.0 + 1) (take place pages) (omega arith) is.below) (omega arith, tt));
+        subst (λ (ps : List Numbered). AreNumberedBelow (page.0 + 1) ps) (sym front) (below_append (page.0 + 1) (take place pages) (page ∷ []) (below_weaker page.0 (page.0 + 1) (take place pages) (omega arith) is.below) (omega arith, tt));
     len = let size = front_long in let within = is.within in omega (arith, size, fewer, within, length-append (take place pages) (page ∷ rest));
   }
 
@@ -107,20 +107,20 @@ drop_suc (suc n) (page ∷ pages) = drop_suc n pages
 
 -- ---- the place of the next number, and the page of this one
 
-module _ (number : ℕ) (pages : List Numbered) (place : ℕ) (is : IsPlaceOf number pages place) where
-  below_next : place < length pages → is_numbered number (slice_get pages place) ≡ true → AreBelow (number + 1) (take (place + 1) pages)
+module _ (number : ℕ) (pages : List Numbered) (place : ℕ) (is : IsPagePlace number pages place) where
+  below_next : place < length pages → is_numbered number (slice_get pages place) ≡ true → AreNumberedBelow (number + 1) (take (place + 1) pages)
   below_next inside there =
       let page : Numbered = get_or pages place (0, []) in
       let got : slice_get pages place ≡ Some page = slice_get_read pages (length pages) place page refl inside (get_or_default pages place (0, []) page inside) in
       let same : page.0 ≡ number = eqb-true page.0 number (ap (is_numbered number) (sym got) ∙ there) in
-      subst (λ (ps : List Numbered). AreBelow (number + 1) ps) (sym (take_more pages place (0, []) inside))
+      subst (λ (ps : List Numbered). AreNumberedBelow (number + 1) ps) (sym (take_more pages place (0, []) inside))
       (below_append (number + 1) (take place pages) (page ∷ []) (below_weaker number (number + 1) (take place pages) (omega arith) is.below) (omega (arith, same), tt))
 
   pub numbered_within : is_numbered number (slice_get pages place) ≡ true → place < length pages
   numbered_within there =
       omega (arith, length-drop place pages, some_first number (drop place pages) (ap (is_numbered number) (get_dropped place pages) ∙ there))
 
-  pub place_kept : is_numbered number (slice_get pages place) ≡ true → IsPlaceOf (number + 1) pages (place + 1)
+  pub place_kept : is_numbered number (slice_get pages place) ≡ true → IsPagePlace (number + 1) pages (place + 1)
   place_kept there =
       let inside = numbered_within there in
       record {
@@ -129,7 +129,7 @@ module _ (number : ℕ) (pages : List Numbered) (place : ℕ) (is : IsPlaceOf nu
         behind = subst (λ (ps : List Numbered). RiseFrom (number + 1) ps) (drop_suc place pages ∙ ap (λ n. drop n pages) (let e : suc place ≡ place + 1 = omega arith in e)) (is_first number (drop place pages) is.behind (ap (is_numbered number) (get_dropped place pages) ∙ there));
       }
 
-  pub place_absent : is_numbered number (slice_get pages place) ≡ false → IsPlaceOf (number + 1) pages place
+  pub place_absent : is_numbered number (slice_get pages place) ≡ false → IsPagePlace (number + 1) pages place
   place_absent absent = record {
     within = is.within;
     below = below_weaker number (number + 1) (take place pages) (omega arith) is.below;
@@ -153,7 +153,7 @@ module _ (number : ℕ) (pages : List Numbered) (place : ℕ) (is : IsPlaceOf nu
 -- ---- a page is put in, or takes another's place
 
 -- the page that stands there is not of its number
-module _ (page : Numbered) (pages : List Numbered) (place : ℕ) (is : IsPlaceOf page.0 pages place) (kept : AreKept pages) (whole : length page.1 ≡ 4096) where
+module _ (page : Numbered) (pages : List Numbered) (place : ℕ) (is : IsPagePlace page.0 pages place) (kept : AreSoundPages pages) (whole : length page.1 ≡ 4096) where
   pub put_inserts : is_numbered page.0 (slice_get pages place) ≡ false → HasPut page pages (insert pages place page) (place + 1)
   put_inserts absent =
       let first : is_numbered page.0 (slice_get (drop place pages) 0) ≡ false = ap (is_numbered page.0) (get_dropped place pages) ∙ absent in
@@ -172,7 +172,7 @@ module _ (page : Numbered) (pages : List Numbered) (place : ℕ) (is : IsPlaceOf
 
 -- ---- one page of those that are merged
 
-module _ (page : Numbered) (rest old new : List Numbered) (next : ℕ) (put : HasPut page old new next) (left : AreKept (page ∷ rest)) where
+module _ (page : Numbered) (rest old new : List Numbered) (next : ℕ) (put : HasPut page old new next) (left : AreSoundPages (page ∷ rest)) where
   -- those that are left, over what there is now
   pub merged : (number : ℕ) → page_over new rest number ≡ page_over old (page ∷ rest) number
   merged number = elim (cases_eq page.0 number) [
@@ -185,13 +185,13 @@ module _ (page : Numbered) (rest old new : List Numbered) (next : ℕ) (put : Ha
         ap (or_else (kept_page number rest)) here ∙ grind (arith, nat_tests)
   ]
 
-  pub left_rest : AreKept rest
+  pub left_rest : AreSoundPages rest
   left_rest = record { rise = rise_weaker 0 (page.0 + 1) rest (omega arith) left.rise.1; whole = left.whole.1 }
 
-  pub next_below : AreBelowFirst (take next new) rest
+  pub next_below : AreNumberedBelowFirst (take next new) rest
   next_below = go rest left.rise.1
     where
-      go : (later : List Numbered) → RiseFrom (page.0 + 1) later → AreBelowFirst (take next new) later
+      go : (later : List Numbered) → RiseFrom (page.0 + 1) later → AreNumberedBelowFirst (take next new) later
       go [] rise = tt
       go (first ∷ later) rise = below_weaker (page.0 + 1) first.0 (take next new) rise.0 put.below
 

@@ -6,13 +6,13 @@ use Rattle.std.proofs.lemmas.Option.{slice_get_read}
 use Rattle.std.proofs.lemmas.List.{length-take, length-drop, get_or-take, get_or-drop}
 use Rattle.file_pages.specs.Pages.{kept_page, byte_at, first_bytes}
 use Rattle.file_pages.specs.Parts.{HasPart}
-use Rattle.file_pages.specs.Places.{IsPlaceOf, is_numbered}
+use Rattle.file_pages.specs.Places.{IsPagePlace, is_numbered}
 use Rattle.file_pages.specs.Steps.{end_touched}
 use Rattle.file_pages.proofs.PageBytes.{length_first_bytes, get_first_bytes, is_first_bytes}
 use Rattle.file_pages.proofs.PlaceLemmas.{Numbered, found_page}
 use Rattle.file_pages.proofs.PutLemmas.{numbered_within, kept_nowhere}
 
-module _ (number : ℕ) (pages : List Numbered) (place at : ℕ) (old new : List ℕ) (is : IsPlaceOf number pages place) where
+module _ (number : ℕ) (pages : List Numbered) (place at : ℕ) (old new : List ℕ) (is : IsPagePlace number pages place) where
   -- from a page that is kept
   pub part_kept : (page : Numbered) → page ≡ get_or pages place page → is_numbered number (slice_get pages place) ≡ true → HasPart (Some page.1) page.0 at old new → HasPart (kept_page number pages) number at old new
   part_kept page there numbered part =

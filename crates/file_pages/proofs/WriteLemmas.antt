@@ -5,7 +5,7 @@ use Rattle.std.proofs.lemmas.Bool.{cases_eq, cases_lt, ltb-true, ltb-false}
 use Rattle.std.proofs.lemmas.Bool.Decides.{nat_tests}
 use Rattle.std.proofs.lemmas.List.{append-nil, append_assoc, take-append-drop, length-take, length-drop, length-append, get_or-append_right, get_or-drop, drop_more, take_more, set_at}
 use Rattle.file_pages.specs.Pages.{RiseFrom, AreWhole, kept_page, or_else, page_over, touches, page_written, byte_written}
-use Rattle.file_pages.specs.Places.{AreKept, AreBelow, AreBelowFirst, IsPlaceOf, is_numbered}
+use Rattle.file_pages.specs.Places.{AreSoundPages, AreNumberedBelow, AreNumberedBelowFirst, IsPagePlace, is_numbered}
 use Rattle.file_pages.specs.Steps.{first_touched, end_touched, written_in, where_none, fresh_page, AreFresh, is_below, ArePagesWritten}
 use Rattle.file_pages.proofs.PageBytes.{length_first_bytes}
 use Rattle.file_pages.proofs.PartLemmas.{touched_apart}
@@ -47,7 +47,7 @@ module _ (at : ℕ) (bytes : List ℕ) where
       ap (λ (test : Bool). let first : Numbered = (page.0, if test then page_written (Some page.1) page.0 at bytes else page.1) in first ∷ written_in at bytes pages) other
       ∙ ap (λ (later : List Numbered). page ∷ later) same
 
-  pub written_before : (pages : List Numbered) → AreBelow (first_touched at) pages → written_in at bytes pages ≡ pages
+  pub written_before : (pages : List Numbered) → AreNumberedBelow (first_touched at) pages → written_in at bytes pages ≡ pages
   written_before [] below = refl
   written_before (page ∷ pages) below = stays page pages (untouched_before at (length bytes) page.0 below.0) (written_before pages below.1)
 
@@ -66,7 +66,7 @@ module _ (at : ℕ) (bytes : List ℕ) where
   written_rise least [] rise = tt
   written_rise least (page ∷ pages) rise = (rise.0, written_rise (page.0 + 1) pages rise.1)
 
-  pub written_below : (number : ℕ) (pages : List Numbered) → AreBelow number pages → AreBelow number (written_in at bytes pages)
+  pub written_below : (number : ℕ) (pages : List Numbered) → AreNumberedBelow number pages → AreNumberedBelow number (written_in at bytes pages)
   written_below number [] below = tt
   written_below number (page ∷ pages) below = (below.0, written_below number pages below.1)
 
@@ -235,7 +235,7 @@ module _ (base old : List Numbered) (at : ℕ) (bytes : List ℕ) where
   }
 
   -- one number more
-  module _ (number place : ℕ) (fresh : List Numbered) (is : IsPlaceOf number old place) (are : AreFresh base old at bytes number fresh) where
+  module _ (number place : ℕ) (fresh : List Numbered) (is : IsPagePlace number old place) (are : AreFresh base old at bytes number fresh) where
     least : first_touched at ≤ number
     least = let few = are.few in omega (arith, few)
 
@@ -263,8 +263,8 @@ module _ (base old : List Numbered) (at : ℕ) (bytes : List ℕ) where
       filled : page.1 ≡ page_written (kept_page number base) number at bytes
       filled = ap (λ (p : Numbered). p.1) page_is
 
-      below_page : AreBelow page.0 fresh
-      below_page = subst (λ n. AreBelow n fresh) (sym named) are.below
+      below_page : AreNumberedBelow page.0 fresh
+      below_page = subst (λ n. AreNumberedBelow n fresh) (sym named) are.below
 
       pub next_made : AreFresh base old at bytes (number + 1) (fresh ++ page ∷ [])
       next_made = record {
@@ -306,7 +306,7 @@ module _ (base old fresh new : List Numbered) (at : ℕ) (bytes : List ℕ) (are
       ∙ ap (λ (made : Option (List ℕ)). or_else made (kept_page number (written_in at bytes old))) (are.pages number ∙ fresh_untouched base old at bytes (end_touched at (length bytes)) number untouched)
       ∙ kept_other at bytes number old untouched
 
-  pub pages_written : length new ≤ length (written_in at bytes old) + length fresh → AreKept new → ArePagesWritten base old at bytes new
+  pub pages_written : length new ≤ length (written_in at bytes old) + length fresh → AreSoundPages new → ArePagesWritten base old at bytes new
   pages_written size kept = record {
     touched = new_touched;
     others = new_others;
@@ -316,15 +316,15 @@ module _ (base old fresh new : List Numbered) (at : ℕ) (bytes : List ℕ) (are
 
 -- ---- what the merge of both asks
 
-pub written_kept : (at : ℕ) (bytes : List ℕ) (pages : List Numbered) → AreKept pages → AreKept (written_in at bytes pages)
+pub written_kept : (at : ℕ) (bytes : List ℕ) (pages : List Numbered) → AreSoundPages pages → AreSoundPages (written_in at bytes pages)
 written_kept at bytes pages kept = record { rise = written_rise at bytes 0 pages kept.rise; whole = written_whole at bytes pages kept.whole }
 
-pub fresh_kept_all : (base old : List Numbered) (at : ℕ) (bytes : List ℕ) (upto : ℕ) (fresh : List Numbered) → AreFresh base old at bytes upto fresh → AreKept fresh
+pub fresh_kept_all : (base old : List Numbered) (at : ℕ) (bytes : List ℕ) (upto : ℕ) (fresh : List Numbered) → AreFresh base old at bytes upto fresh → AreSoundPages fresh
 fresh_kept_all base old at bytes upto fresh are = record { rise = rise_weaker 0 (first_touched at) fresh (omega arith) are.rise; whole = are.whole }
 
 -- the pages before the first touched one are below all that were made
-pub fresh_behind : (at : ℕ) (bytes : List ℕ) (old fresh : List Numbered) (place : ℕ) → IsPlaceOf (first_touched at) old place → RiseFrom (first_touched at) fresh → AreBelowFirst (take place (written_in at bytes old)) fresh
+pub fresh_behind : (at : ℕ) (bytes : List ℕ) (old fresh : List Numbered) (place : ℕ) → IsPagePlace (first_touched at) old place → RiseFrom (first_touched at) fresh → AreNumberedBelowFirst (take place (written_in at bytes old)) fresh
 fresh_behind at bytes old [] place is rise = tt
 fresh_behind at bytes old (page ∷ fresh) place is rise =
-    subst (λ (pages : List Numbered). AreBelow page.0 pages) (sym (written_take at bytes place old))
+    subst (λ (pages : List Numbered). AreNumberedBelow page.0 pages) (sym (written_take at bytes place old))
     (written_below at bytes page.0 (take place old) (below_weaker (first_touched at) page.0 (take place old) rise.0 is.below))

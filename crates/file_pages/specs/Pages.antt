@@ -72,7 +72,7 @@ abbrev pub IsEmpty : PagesValue → Type 0
 IsEmpty pages = (pages.size ≡ 0) × (pages.kept ≡ [])
 
 -- the same bytes under the same numbers; the room may be another
-pub record AreSame (old new : PagesValue) : Type 0 where
+pub record HaveSamePages (old new : PagesValue) : Type 0 where
   pub size : new.size ≡ old.size
   pub kept : new.kept ≡ old.kept
 
@@ -92,7 +92,7 @@ page_written page number at bytes = first_bytes (byte_written page number at byt
 
 -- Bytes were written: the file reaches at least as far as they do; a touched page that was not kept began as that of `base`, or
 -- with zeros; no other page changed, and none was added.
-pub record IsWritten (base old : PagesValue) (at : ℕ) (bytes : List ℕ) (new : PagesValue) : Type 0 where
+pub record IsWrittenOver (base old : PagesValue) (at : ℕ) (bytes : List ℕ) (new : PagesValue) : Type 0 where
   pub size : new.size ≡ max old.size (at + length bytes)
   pub touched : (number : ℕ) → touches at (length bytes) number ≡ true → kept_page number new.kept ≡ Some (page_written (page_over base.kept old.kept number) number at bytes)
   pub others : (number : ℕ) → touches at (length bytes) number ≡ false → kept_page number new.kept ≡ kept_page number old.kept

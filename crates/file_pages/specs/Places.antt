@@ -4,24 +4,24 @@ use Rattle.cluster_model.specs.declared.limits.TheConstants.{MAX_FILE}
 use Rattle.file_pages.specs.Pages.{RiseFrom, AreWhole}
 
 -- the numbers rise, and each page is whole
-pub record AreKept (pages : List (ℕ × List ℕ)) : Type 0 where
+pub record AreSoundPages (pages : List (ℕ × List ℕ)) : Type 0 where
   pub rise : RiseFrom 0 pages
   pub whole : AreWhole pages
 
 -- the numbers are below this one
-abbrev pub AreBelow : ℕ → List (ℕ × List ℕ) → Type 0
-AreBelow number [] = ⊤
-AreBelow number (page ∷ pages) = (page.0 < number) × AreBelow number pages
+abbrev pub AreNumberedBelow : ℕ → List (ℕ × List ℕ) → Type 0
+AreNumberedBelow number [] = ⊤
+AreNumberedBelow number (page ∷ pages) = (page.0 < number) × AreNumberedBelow number pages
 
 -- the numbers are below that of the first of others
-abbrev pub AreBelowFirst : List (ℕ × List ℕ) → List (ℕ × List ℕ) → Type 0
-AreBelowFirst front [] = ⊤
-AreBelowFirst front (page ∷ pages) = AreBelow page.0 front
+abbrev pub AreNumberedBelowFirst : List (ℕ × List ℕ) → List (ℕ × List ℕ) → Type 0
+AreNumberedBelowFirst front [] = ⊤
+AreNumberedBelowFirst front (page ∷ pages) = AreNumberedBelow page.0 front
 
 -- the place of the first page whose number is not below this one
-pub record IsPlaceOf (number : ℕ) (pages : List (ℕ × List ℕ)) (place : ℕ) : Type 0 where
+pub record IsPagePlace (number : ℕ) (pages : List (ℕ × List ℕ)) (place : ℕ) : Type 0 where
   pub within : place ≤ length pages
-  pub below : AreBelow number (take place pages)
+  pub below : AreNumberedBelow number (take place pages)
   pub behind : RiseFrom number (drop place pages)
 
 -- a page has this number
@@ -32,4 +32,4 @@ is_numbered number (Some page) = page.0 == number
 -- a file has at most so many bytes, and its pages are in order
 pub record IsFile (size : ℕ) (pages : List (ℕ × List ℕ)) : Type 0 where
   pub bounded : size ≤ MAX_FILE
-  pub kept : AreKept pages
+  pub kept : AreSoundPages pages

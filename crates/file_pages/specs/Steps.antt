@@ -1,14 +1,14 @@
 -- What the steps of a write and of an adoption do to the pages.
 use Rattle.std.specs.Prelude.{◌≡◌, ℕ, Bool, true, false, ◌+◌, ◌/◌, ◌≤◌, ◌&&◌, nat_lt, if◌then◌else◌, List, [], ◌∷◌, length, take, Option, Some, None}
 use Rattle.file_pages.specs.Pages.{RiseFrom, AreWhole, kept_page, page_over, page_written, touches}
-use Rattle.file_pages.specs.Places.{AreKept, AreBelow}
+use Rattle.file_pages.specs.Places.{AreSoundPages, AreNumberedBelow}
 
 -- A page took the place of its number; `next` is the place behind it.
 pub record HasPut (page : ℕ × List ℕ) (old new : List (ℕ × List ℕ)) (next : ℕ) : Type 0 where
   pub over : (number : ℕ) → kept_page number new ≡ page_over old (page ∷ []) number
-  pub kept : AreKept new
+  pub kept : AreSoundPages new
   pub within : next ≤ length new
-  pub below : AreBelow (page.0 + 1) (take next new)
+  pub below : AreNumberedBelow (page.0 + 1) (take next new)
   pub len : length new ≤ length old + 1
 
 -- ---- a write
@@ -42,7 +42,7 @@ fresh_page base old at bytes upto number =
 pub record AreFresh (base old : List (ℕ × List ℕ)) (at : ℕ) (bytes : List ℕ) (upto : ℕ) (fresh : List (ℕ × List ℕ)) : Type 0 where
   pub pages : (number : ℕ) → kept_page number fresh ≡ fresh_page base old at bytes upto number
   pub rise : RiseFrom (first_touched at) fresh
-  pub below : AreBelow upto fresh
+  pub below : AreNumberedBelow upto fresh
   pub whole : AreWhole fresh
   pub few : length fresh + first_touched at ≤ upto
 
@@ -57,4 +57,4 @@ pub record ArePagesWritten (base old : List (ℕ × List ℕ)) (at : ℕ) (bytes
   pub touched : (number : ℕ) → touches at (length bytes) number ≡ true → kept_page number new ≡ Some (page_written (page_over base old number) number at bytes)
   pub others : (number : ℕ) → touches at (length bytes) number ≡ false → kept_page number new ≡ kept_page number old
   pub few : length new ≤ length old + (length bytes / 4096 + 2)
-  pub kept : AreKept new
+  pub kept : AreSoundPages new

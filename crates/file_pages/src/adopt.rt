@@ -4,7 +4,7 @@ ghost use Rattle.std.specs.Prelude.{◌≡◌, ℕ, ◌+◌, ◌<◌, ◌≤◌,
 ghost use Rattle.std.specs.List.{insert};
 ghost use Rattle.std.specs.Vec.{vec_len, vec_capacity};
 ghost use Rattle.file_pages.specs.Pages.{kept_page, page_over};
-ghost use Rattle.file_pages.specs.Places.{AreKept, AreBelow, AreBelowFirst};
+ghost use Rattle.file_pages.specs.Places.{AreSoundPages, AreNumberedBelow, AreNumberedBelowFirst};
 ghost use Rattle.file_pages.specs.Steps.{HasPut};
 
 use crate::find::{is_at, seek_from};
@@ -27,9 +27,9 @@ fn insert_reserved(pages: &mut Vec<Page>, place: usize, page: Page)
 
 /// A page takes the place of its number, where the pages before `from` have lower ones. Tells the place behind it.
 fn put(pages: &mut Vec<Page>, from: usize, page: Page) -> usize
-    requires kept { AreKept pages.old.items }
+    requires kept { AreSoundPages pages.old.items }
     requires within { from ≤ vec_len pages.old }
-    requires below { AreBelow page.0 (take from pages.old.items) }
+    requires below { AreNumberedBelow page.0 (take from pages.old.items) }
     requires whole { length page.1 ≡ 4096 }
     requires room { vec_len pages.old < vec_capacity pages.old }
     ensures put { HasPut page pages.old.items pages.new.items result }
@@ -46,13 +46,13 @@ fn put(pages: &mut Vec<Page>, from: usize, page: Page) -> usize
 
 /// Each of the dirty pages takes the place of its number, and none is left. The pages before `from` have lower numbers.
 pub fn merge(pages: &mut Vec<Page>, from: usize, dirty: &mut Vec<Page>)
-    requires kept { AreKept pages.old.items }
-    requires dirty { AreKept dirty.old.items }
+    requires kept { AreSoundPages pages.old.items }
+    requires dirty { AreSoundPages dirty.old.items }
     requires within { from ≤ vec_len pages.old }
-    requires below { AreBelowFirst (take from pages.old.items) dirty.old.items }
+    requires below { AreNumberedBelowFirst (take from pages.old.items) dirty.old.items }
     requires room { vec_len pages.old + vec_len dirty.old ≤ vec_capacity pages.old }
     ensures over { (number : ℕ) → kept_page number pages.new.items ≡ page_over pages.old.items dirty.old.items number }
-    ensures kept { AreKept pages.new.items }
+    ensures kept { AreSoundPages pages.new.items }
     ensures len { vec_len pages.new ≤ vec_len pages.old + vec_len dirty.old }
     ensures none { dirty.new.items ≡ [] }
 {

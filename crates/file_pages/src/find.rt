@@ -3,7 +3,7 @@
 ghost use Rattle.std.specs.Prelude.{◌≡◌, ℕ, ◌+◌, ◌≤◌, length, take, IfSome, option_map, slice_get};
 ghost use Rattle.cluster_model.specs.declared.limits.TheConstants.{MAX_FILE};
 ghost use Rattle.file_pages.specs.Pages.{RiseFrom, kept_page};
-ghost use Rattle.file_pages.specs.Places.{AreBelow, IsPlaceOf, is_numbered};
+ghost use Rattle.file_pages.specs.Places.{AreNumberedBelow, IsPagePlace, is_numbered};
 ghost use Rattle.file_pages.specs.Steps.{end_touched};
 
 use crate::page::{PAGE, Page};
@@ -19,7 +19,7 @@ pub fn end_of(at: u64, count: usize) -> u64
 /// The place of the first page whose number is not below this one. Of a number behind all others it is found at once.
 pub fn seek(pages: &[Page], number: u64) -> usize
     requires { RiseFrom 0 pages.now }
-    ensures { IsPlaceOf number pages.now result }
+    ensures { IsPagePlace number pages.now result }
 {
     match pages.last() {
         Some(page) if page.number() < number => pages.len(),
@@ -31,8 +31,8 @@ pub fn seek(pages: &[Page], number: u64) -> usize
 pub fn seek_from(pages: &[Page], from: usize, number: u64) -> usize
     requires rise { RiseFrom 0 pages.now }
     requires within { from ≤ length pages.now }
-    requires below { AreBelow number (take from pages.now) }
-    ensures { IsPlaceOf number pages.now result }
+    requires below { AreNumberedBelow number (take from pages.now) }
+    ensures { IsPagePlace number pages.now result }
 {
     match pages.get(from) {
         Some(page) if page.number() < number => from + seek(&pages[from..], number),
@@ -51,7 +51,7 @@ pub fn is_at(pages: &[Page], place: usize, number: u64) -> bool
 }
 
 /// The bytes of the page of a number.
-pub fn bytes_of(pages: &[Page], number: u64) -> Option<&[u8]>
+pub fn page_bytes(pages: &[Page], number: u64) -> Option<&[u8]>
     requires { RiseFrom 0 pages.now }
     ensures exact { option_map (λ page. page.now) result ≡ kept_page number pages.now }
     ensures whole { IfSome result (λ page. length page.now ≡ 4096) }

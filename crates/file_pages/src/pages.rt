@@ -2,7 +2,7 @@
 
 ghost use Rattle.std.specs.Prelude.{◌≡◌, ◌+◌, ◌-◌, ◌^◌, ◌<◌, ◌≤◌, ◌++◌, min, length, take, drop, IfOk, IfSome, OnOk, OnErr, option_map};
 ghost use Rattle.cluster_model.specs.declared.limits.TheConstants.{MAX_FILE};
-ghost use Rattle.file_pages.specs.Pages.{RiseFrom, AreWhole, kept_page, bytes_of, IsEmpty, AreSame, IsWritten, HasAdopted};
+ghost use Rattle.file_pages.specs.Pages.{RiseFrom, AreWhole, kept_page, bytes_of, IsEmpty, HaveSamePages, IsWrittenOver, HasAdopted};
 
 use crate::adopt::merge;
 use crate::find;
@@ -74,7 +74,7 @@ impl Pages {
         ensures exact { option_map (λ page. page.now) result ≡ kept_page number self.now.kept }
         ensures whole { IfSome result (λ page. length page.now ≡ 4096) }
     {
-        find::bytes_of(&self.pages, number)
+        find::page_bytes(&self.pages, number)
     }
 
     /// Puts at least one byte at the byte `at`, which all end at byte 67,108,864 or before. The file reaches at least as far as they
@@ -86,8 +86,8 @@ impl Pages {
     pub fn write(&mut self, base: &Pages, at: u64, bytes: &[u8]) -> Result<(), AllocError>
         requires some { 0 < length bytes.now }
         requires within { at + length bytes.now ≤ MAX_FILE }
-        ensures ok { OnOk result (IsWritten base.now self.old at bytes.now self.new) }
-        ensures err { OnErr result (AreSame self.old self.new) }
+        ensures ok { OnOk result (IsWrittenOver base.now self.old at bytes.now self.new) }
+        ensures err { OnErr result (HaveSamePages self.old self.new) }
     {
         write_pages(self.alloc, &mut self.pages, &base.pages, at, bytes)?;
         self.size = self.size.max(at + bytes.len() as u64);
@@ -114,7 +114,7 @@ impl Pages {
     ///
     /// `AllocError` where memory is wanted, and the pages are as they were.
     pub fn reserve(&mut self, more: usize) -> Result<(), AllocError>
-        ensures same { AreSame self.old self.new }
+        ensures same { HaveSamePages self.old self.new }
         ensures ok { OnOk result (more ≤ self.new.room) }
         ensures grows { self.old.room ≤ self.new.room }
     {
@@ -141,8 +141,8 @@ impl Pages {
     pub fn adopt(&mut self, dirty: &mut Pages) -> Result<(), AllocError>
         ensures ok { OnOk result (HasAdopted self.old dirty.old self.new) }
         ensures empty { OnOk result (IsEmpty dirty.new) }
-        ensures err { OnErr result (AreSame self.old self.new) }
-        ensures err_dirty { OnErr result (AreSame dirty.old dirty.new) }
+        ensures err { OnErr result (HaveSamePages self.old self.new) }
+        ensures err_dirty { OnErr result (HaveSamePages dirty.old dirty.new) }
     {
         self.reserve(dirty.pages.len())?;
         self.adopt_reserved(dirty);
@@ -155,7 +155,7 @@ impl Pages {
     ///
     /// `AllocError` where memory is wanted.
     pub fn try_clone(&self) -> Result<Pages, AllocError>
-        ensures { IfOk result (λ copy. AreSame self.now copy) }
+        ensures { IfOk result (λ copy. HaveSamePages self.now copy) }
     {
         let mut pages = Vec::with_capacity(self.alloc, self.pages.len())?;
         for page in &self.pages {

@@ -4,11 +4,11 @@ ghost use Rattle.std.specs.Prelude.{◌≡◌, ℕ, ◌+◌, ◌/◌, ◌<◌, �
 ghost use Rattle.std.specs.Vec.{vec_len, vec_capacity};
 ghost use Rattle.cluster_model.specs.declared.limits.TheConstants.{MAX_FILE};
 ghost use Rattle.file_pages.specs.Pages.{RiseFrom};
-ghost use Rattle.file_pages.specs.Places.{AreKept, IsPlaceOf};
+ghost use Rattle.file_pages.specs.Places.{AreSoundPages, IsPagePlace};
 ghost use Rattle.file_pages.specs.Steps.{first_touched, end_touched, written_in, AreFresh, is_below, ArePagesWritten};
 
 use crate::adopt::merge;
-use crate::find::{bytes_of, end_of, is_at, seek};
+use crate::find::{end_of, is_at, page_bytes, seek};
 use crate::page::{PAGE, Page};
 use std::alloc::{AllocError, Global};
 
@@ -21,7 +21,7 @@ fn fresh_pages(
     at: u64,
     bytes: &[u8],
 ) -> Result<Vec<Page>, AllocError>
-    requires place { IsPlaceOf (first_touched at) pages.now place }
+    requires place { IsPagePlace (first_touched at) pages.now place }
     requires base { RiseFrom 0 base.now }
     requires within { at + length bytes.now ≤ MAX_FILE }
     requires some { 0 < length bytes.now }
@@ -34,7 +34,7 @@ fn fresh_pages(
             place += 1;
             continue;
         }
-        fresh.push(Page::made(alloc, number, bytes_of(base, number), at, bytes)?)?;
+        fresh.push(Page::made(alloc, number, page_bytes(base, number), at, bytes)?)?;
     }
     Ok(fresh)
 }
@@ -51,7 +51,7 @@ fn is_below(pages: &[Page], place: usize, number: u64) -> bool
 
 /// Writes the kept ones of the touched pages. `place` is that of the first touched page. Takes no memory.
 fn write_kept(pages: &mut Vec<Page>, place: usize, at: u64, bytes: &[u8])
-    requires place { IsPlaceOf (first_touched at) pages.old.items place }
+    requires place { IsPagePlace (first_touched at) pages.old.items place }
     requires within { at + length bytes.now ≤ MAX_FILE }
     requires some { 0 < length bytes.now }
     ensures items { pages.new.items ≡ written_in at bytes.now pages.old.items }
@@ -74,7 +74,7 @@ pub fn write_pages(
     at: u64,
     bytes: &[u8],
 ) -> Result<(), AllocError>
-    requires kept { AreKept pages.old.items }
+    requires kept { AreSoundPages pages.old.items }
     requires base { RiseFrom 0 base.now }
     requires within { at + length bytes.now ≤ MAX_FILE }
     requires some { 0 < length bytes.now }

@@ -10,7 +10,7 @@ use Rattle.cluster_model.proofs.Elements.{slice_get-set_same, slice_get-set_othe
 use Rattle.mds_rule.specs.MdsStates.{WaitingRead}
 use Rattle.mds_rule.specs.Answers.{is_read_out}
 use Rattle.served_files.specs.Waiting.{OutUnder}
-use Rattle.served_files.specs.Tickets.{TicketsValue, Finds, KeepsFound, AreFound}
+use Rattle.served_files.specs.Tickets.{TicketsValue, FindsTicket, KeepsFound, AreReadsFound}
 use Rattle.served_files.proofs.Removed.{stood_before, stood_behind}
 
 yes_no : (b : Bool) → b ≡ true → b ≡ false → ⊥
@@ -64,17 +64,17 @@ module _ {X : Type 0} where
   pub any_there : (test : X → Bool) (xs : List X) → is_some (position test xs) ≡ list_any test xs
   any_there test xs = ap is_some (position_from-zero test xs) ∙ any_from test 0 xs
 
-module _ (reads : List WaitingRead) (t : TicketsValue) (found : AreFound reads t) where
+module _ (reads : List WaitingRead) (t : TicketsValue) (found : AreReadsFound reads t) where
   -- no place is found for the number
-  pub none_out : (xid : ℕ) → ((place : ℕ) → Finds t xid place → None ≡ Some place) → position (is_read_out xid) reads ≡ None
+  pub none_out : (xid : ℕ) → ((place : ℕ) → FindsTicket t xid place → None ≡ Some place) → position (is_read_out xid) reads ≡ None
   none_out xid none = position_from-zero (is_read_out xid) reads ∙ none_from (is_read_out xid) 0 reads (λ place r there out. none-some place (none place (found place xid r there out)))
 
   -- a place is: the one there is out under the number, or none is
-  pub out_there : (xid place : ℕ) (r : WaitingRead) → ((p : ℕ) → Finds t xid p → Some place ≡ Some p) → slice_get reads place ≡ Some r → is_read_out xid r ≡ true → position (is_read_out xid) reads ≡ Some place
+  pub out_there : (xid place : ℕ) (r : WaitingRead) → ((p : ℕ) → FindsTicket t xid p → Some place ≡ Some p) → slice_get reads place ≡ Some r → is_read_out xid r ≡ true → position (is_read_out xid) reads ≡ Some place
   out_there xid place r one there out =
       position_from-zero (is_read_out xid) reads ∙ only_from (is_read_out xid) 0 reads place r there out (λ p q at is. sym (same_Some place p (one p (found p xid q at is)))) ∙ ap Some (omega arith)
 
-  pub not_there : (xid place : ℕ) (r : WaitingRead) → ((p : ℕ) → Finds t xid p → Some place ≡ Some p) → slice_get reads place ≡ Some r → is_read_out xid r ≡ false → position (is_read_out xid) reads ≡ None
+  pub not_there : (xid place : ℕ) (r : WaitingRead) → ((p : ℕ) → FindsTicket t xid p → Some place ≡ Some p) → slice_get reads place ≡ Some r → is_read_out xid r ≡ false → position (is_read_out xid) reads ≡ None
   not_there xid place r one there not =
       position_from-zero (is_read_out xid) reads
       ∙ none_from (is_read_out xid) 0 reads (λ p q at is.
@@ -85,54 +85,54 @@ module _ (reads : List WaitingRead) (t : TicketsValue) (found : AreFound reads t
   -- ---- changes
 
   -- more is found
-  pub still_found : (t' : TicketsValue) → KeepsFound t t' → AreFound reads t'
+  pub still_found : (t' : TicketsValue) → KeepsFound t t' → AreReadsFound reads t'
   still_found t' kept = λ place xid r there out. kept xid place (found place xid r there out)
 
   -- one more, which waits
-  pub found_pushed : (w : WaitingRead) → ((xid : ℕ) → is_read_out xid w ≡ false) → AreFound (reads ++ w ∷ []) t
+  pub found_pushed : (w : WaitingRead) → ((xid : ℕ) → is_read_out xid w ≡ false) → AreReadsFound (reads ++ w ∷ []) t
   found_pushed w waits = λ place xid r there out. by_place place xid r out (pushed reads w place r there)
     where
-      by_place : (place xid : ℕ) (r : WaitingRead) → is_read_out xid r ≡ true → Pushed reads w place r → Finds t xid place
+      by_place : (place xid : ℕ) (r : WaitingRead) → is_read_out xid r ≡ true → Pushed reads w place r → FindsTicket t xid place
       by_place place xid r out (Old there) = found place xid r there out
       by_place place xid r out (New at same) = absurd (yes_no (is_read_out xid r) out (ap (is_read_out xid) same ∙ waits xid))
 
   -- another one at a place: it is out as the one before was, or found there
-  found_set : (place : ℕ) (r w : WaitingRead) → slice_get reads place ≡ Some r → ((xid : ℕ) → is_read_out xid w ≡ true → (is_read_out xid r ≡ true) ⊎ Finds t xid place) → AreFound (set reads place w) t
+  found_set : (place : ℕ) (r w : WaitingRead) → slice_get reads place ≡ Some r → ((xid : ℕ) → is_read_out xid w ≡ true → (is_read_out xid r ≡ true) ⊎ FindsTicket t xid place) → AreReadsFound (set reads place w) t
   found_set place r w at stays = λ p xid q there out. by_place p xid q there out (cases_eq p place)
     where
-      by_case : (xid : ℕ) → (is_read_out xid r ≡ true) ⊎ Finds t xid place → Finds t xid place
+      by_case : (xid : ℕ) → (is_read_out xid r ≡ true) ⊎ FindsTicket t xid place → FindsTicket t xid place
       by_case xid (inl out) = found place xid r at out
       by_case xid (inr finds) = finds
 
-      by_place : (p xid : ℕ) (q : WaitingRead) → slice_get (set reads place w) p ≡ Some q → is_read_out xid q ≡ true → (p ≡ place) ⊎ (p ≢ place) → Finds t xid p
+      by_place : (p xid : ℕ) (q : WaitingRead) → slice_get (set reads place w) p ≡ Some q → is_read_out xid q ≡ true → (p ≡ place) ⊎ (p ≢ place) → FindsTicket t xid p
       by_place p xid q there out (inl same) =
           let is : w ≡ q = same_Some w q (sym (slice_get-set_same reads place r w at) ∙ ap (slice_get (set reads place w)) (sym same) ∙ there) in
-          subst (Finds t xid) (sym same) (by_case xid (stays xid (ap (is_read_out xid) is ∙ out)))
+          subst (FindsTicket t xid) (sym same) (by_case xid (stays xid (ap (is_read_out xid) is ∙ out)))
       by_place p xid q there out (inr other) = found p xid q (sym (slice_get-set_other reads place p w other) ∙ there) out
 
   -- it goes out under a number that stands for its place
-  pub found_sent : (place own : ℕ) (r w : WaitingRead) → slice_get reads place ≡ Some r → Finds t own place → OutUnder own r.read w.read → AreFound (set reads place w) t
+  pub found_sent : (place own : ℕ) (r w : WaitingRead) → slice_get reads place ≡ Some r → FindsTicket t own place → OutUnder own r.read w.read → AreReadsFound (set reads place w) t
   found_sent place own r w at finds under = found_set place r w at (λ xid out. by_number xid (under xid out))
     where
-      by_number : (xid : ℕ) → (is_read_out xid r ≡ true) ⊎ (xid ≡ own) → (is_read_out xid r ≡ true) ⊎ Finds t xid place
+      by_number : (xid : ℕ) → (is_read_out xid r ≡ true) ⊎ (xid ≡ own) → (is_read_out xid r ≡ true) ⊎ FindsTicket t xid place
       by_number xid (inl out) = inl out
-      by_number xid (inr same) = inr (subst (λ n. Finds t n place) (sym same) finds)
+      by_number xid (inr same) = inr (subst (λ n. FindsTicket t n place) (sym same) finds)
 
   -- one less
-  pub found_without : (t' : TicketsValue) (place : ℕ) → place < length reads → ((xid p : ℕ) → p < place → Finds t xid p → Finds t' xid p) → ((xid p : ℕ) → place ≤ p → Finds t xid (p + 1) → Finds t' xid p) → AreFound (remove reads place) t'
+  pub found_without : (t' : TicketsValue) (place : ℕ) → place < length reads → ((xid p : ℕ) → p < place → FindsTicket t xid p → FindsTicket t' xid p) → ((xid p : ℕ) → place ≤ p → FindsTicket t xid (p + 1) → FindsTicket t' xid p) → AreReadsFound (remove reads place) t'
   found_without t' place within before behind = λ p xid r there out. by_place p xid r there out (cases_lt p place)
     where
-      by_place : (p xid : ℕ) (r : WaitingRead) → slice_get (remove reads place) p ≡ Some r → is_read_out xid r ≡ true → (p < place) ⊎ (place ≤ p) → Finds t' xid p
+      by_place : (p xid : ℕ) (r : WaitingRead) → slice_get (remove reads place) p ≡ Some r → is_read_out xid r ≡ true → (p < place) ⊎ (place ≤ p) → FindsTicket t' xid p
       by_place p xid r there out (inl low) = before xid p low (found p xid r (stood_before reads place p r within low there) out)
       by_place p xid r there out (inr high) = behind xid p high (found (p + 1) xid r (stood_behind reads place p r within high there) out)
 
   -- a number under which none is out is forgotten
-  pub found_but : (t' : TicketsValue) (xid : ℕ) → list_any (is_read_out xid) reads ≡ false → ((x place : ℕ) → x ≢ xid → Finds t x place → Finds t' x place) → AreFound reads t'
+  pub found_but : (t' : TicketsValue) (xid : ℕ) → list_any (is_read_out xid) reads ≡ false → ((x place : ℕ) → x ≢ xid → FindsTicket t x place → FindsTicket t' x place) → AreReadsFound reads t'
   found_but t' xid none others = λ place x r there out.
       others x place (λ same. yes_no (is_read_out x r) out (ap (λ n. is_read_out n r) same ∙ fails_at (is_read_out xid) reads place r none there)) (found place x r there out)
 
 -- all begin again
-pub found_again : (again : WaitingRead → WaitingRead) (reads : List WaitingRead) (t : TicketsValue) → ((xid : ℕ) (r : WaitingRead) → is_read_out xid (again r) ≡ false) → AreFound (map again reads) t
+pub found_again : (again : WaitingRead → WaitingRead) (reads : List WaitingRead) (t : TicketsValue) → ((xid : ℕ) (r : WaitingRead) → is_read_out xid (again r) ≡ false) → AreReadsFound (map again reads) t
 found_again again reads t waits = λ place xid r there out. absurd (by_element xid r out (slice_get reads place) (sym (slice_get-map again reads place) ∙ there))
   where
     by_element : (xid : ℕ) (r : WaitingRead) → is_read_out xid r ≡ true → (o : Option WaitingRead) → option_map again o ≡ Some r → ⊥

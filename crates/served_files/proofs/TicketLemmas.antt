@@ -7,12 +7,12 @@ use Rattle.std.proofs.lemmas.Bool.{cases_lt}
 use Rattle.std.proofs.lemmas.List.Sorted.{searched}
 use Rattle.std.proofs.lemmas.List.Quantifiers.{all_pairs_push}
 use Rattle.std.proofs.lemmas.Option.{slice_get_within, slice_get-get_or, get_or_from_slice_get}
-use Rattle.served_files.specs.Tickets.{TicketsValue, Finds, AreRising}
+use Rattle.served_files.specs.Tickets.{TicketsValue, FindsTicket, AreRisingNumbers}
 use Rattle.served_files.proofs.Removed.{stays_before, moves_down}
 
 -- ---- the place of a ticket
 
-never_fall : (tickets : List ℕ) → AreRising tickets → (i j : ℕ) → i ≤ j → j < length tickets → get_or tickets i 0 ≤ get_or tickets j 0
+never_fall : (tickets : List ℕ) → AreRisingNumbers tickets → (i j : ℕ) → i ≤ j → j < length tickets → get_or tickets i 0 ≤ get_or tickets j 0
 never_fall tickets rising i j le within = by_order (cases_lt i j)
   where
     by_order : (i < j) ⊎ (j ≤ i) → get_or tickets i 0 ≤ get_or tickets j 0
@@ -21,7 +21,7 @@ never_fall tickets rising i j le within = by_order (cases_lt i j)
         let same : i ≡ j = omega (arith, le, not) in
         subst (λ k. get_or tickets i 0 ≤ get_or tickets k 0) same (omega arith)
 
-one_place : (tickets : List ℕ) (i j : ℕ) → AreRising tickets → i < length tickets → j < length tickets → get_or tickets i 0 ≡ get_or tickets j 0 → i ≡ j
+one_place : (tickets : List ℕ) (i j : ℕ) → AreRisingNumbers tickets → i < length tickets → j < length tickets → get_or tickets i 0 ≡ get_or tickets j 0 → i ≡ j
 one_place tickets i j rising inside within same = by_order (cases_lt i j) (cases_lt j i)
   where
     by_order : (i < j) ⊎ (j ≤ i) → (j < i) ⊎ (i ≤ j) → i ≡ j
@@ -30,7 +30,7 @@ one_place tickets i j rising inside within same = by_order (cases_lt i j) (cases
     by_order (inr not) (inr too) = omega (arith, not, too)
 
 -- what a search for a ticket answers that stands at a place
-pub found_at : (tickets : List ℕ) (ticket place : ℕ) (r : Result ℕ ℕ) → AreRising tickets → IsBinarySearchResult (λ y. nat_cmp y ticket) tickets r → slice_get tickets place ≡ Some ticket → result_ok r ≡ Some place
+pub found_at : (tickets : List ℕ) (ticket place : ℕ) (r : Result ℕ ℕ) → AreRisingNumbers tickets → IsBinarySearchResult (λ y. nat_cmp y ticket) tickets r → slice_get tickets place ≡ Some ticket → result_ok r ≡ Some place
 found_at tickets ticket place (Ok i) rising search there =
     let seen = searched tickets ticket (Ok i) search (never_fall tickets rising) in
     let within = slice_get_within tickets place ticket there in
@@ -48,7 +48,7 @@ found_at tickets ticket place (Err i) rising search there =
 
 -- ---- one more
 
-pub rise_pushed : (tickets : List ℕ) (ticket : ℕ) → AreRising tickets → ((place t : ℕ) → slice_get tickets place ≡ Some t → t < ticket) → AreRising (tickets ++ ticket ∷ [])
+pub rise_pushed : (tickets : List ℕ) (ticket : ℕ) → AreRisingNumbers tickets → ((place t : ℕ) → slice_get tickets place ≡ Some t → t < ticket) → AreRisingNumbers (tickets ++ ticket ∷ [])
 rise_pushed tickets ticket rising above = all_pairs_push (λ (a b : ℕ). a < b) tickets ticket rising (λ k d within. above k (get_or tickets k d) (slice_get-get_or tickets k d within))
 
 -- ---- one less
@@ -60,8 +60,8 @@ module _ (is_whole : Bool) (tickets : List ℕ) (out : List (ℕ × ℕ)) (place
   abbrev behind : TicketsValue
   behind = record { is_whole = is_whole; tickets = remove tickets place; out = out }
 
-  pub finds_before : (xid p : ℕ) → p < place → Finds before xid p → Finds behind xid p
+  pub finds_before : (xid p : ℕ) → p < place → FindsTicket before xid p → FindsTicket behind xid p
   finds_before xid p low (ticket, at, there) = (ticket, at, stays_before tickets place p ticket within low there)
 
-  pub finds_behind : (xid p : ℕ) → place ≤ p → Finds before xid (p + 1) → Finds behind xid p
+  pub finds_behind : (xid p : ℕ) → place ≤ p → FindsTicket before xid (p + 1) → FindsTicket behind xid p
   finds_behind xid p high (ticket, at, there) = (ticket, at, moves_down tickets place p ticket within high there)

@@ -19,23 +19,23 @@ abbrev pub ticket_of : ℕ → List (ℕ × ℕ) → Option ℕ
 ticket_of xid out = lookup (is_at (nat_cmp xid)) out
 
 -- the number stands for this place
-abbrev pub Finds : TicketsValue → ℕ → ℕ → Type 0
-Finds t xid place = (ticket : ℕ) × (ticket_of xid t.out ≡ Some ticket) × (slice_get t.tickets place ≡ Some ticket)
+abbrev pub FindsTicket : TicketsValue → ℕ → ℕ → Type 0
+FindsTicket t xid place = (ticket : ℕ) × (ticket_of xid t.out ≡ Some ticket) × (slice_get t.tickets place ≡ Some ticket)
 
 -- each number that stood for a place stands for it still
 abbrev pub KeepsFound : TicketsValue → TicketsValue → Type 0
-KeepsFound old new = (xid place : ℕ) → Finds old xid place → Finds new xid place
+KeepsFound old new = (xid place : ℕ) → FindsTicket old xid place → FindsTicket new xid place
 
 -- each ticket is above those before it
-abbrev pub AreRising : List ℕ → Type 0
-AreRising tickets = AllPairs (λ (a b : ℕ). a < b) tickets
+abbrev pub AreRisingNumbers : List ℕ → Type 0
+AreRisingNumbers tickets = AllPairs (λ (a b : ℕ). a < b) tickets
 
 -- ---- READs that are found so
 
 -- each number under which one is out stands for its place
-abbrev pub AreFound : List WaitingRead → TicketsValue → Type 0
-AreFound reads t = (place xid : ℕ) (r : WaitingRead) → slice_get reads place ≡ Some r → is_read_out xid r ≡ true → Finds t xid place
+abbrev pub AreReadsFound : List WaitingRead → TicketsValue → Type 0
+AreReadsFound reads t = (place xid : ℕ) (r : WaitingRead) → slice_get reads place ≡ Some r → is_read_out xid r ≡ true → FindsTicket t xid place
 
 -- these are the tickets of these READs, as long as they are whole
 abbrev pub AreTicketsOf : List WaitingRead → TicketsValue → Type 0
-AreTicketsOf reads t = t.is_whole ≡ true → (length t.tickets ≡ length reads) × AreFound reads t
+AreTicketsOf reads t = t.is_whole ≡ true → (length t.tickets ≡ length reads) × AreReadsFound reads t

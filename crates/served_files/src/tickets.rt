@@ -1,7 +1,7 @@
 //! Places in a list that are found by the numbers of calls.
 
 ghost use Rattle.std.specs.Prelude.{◌≡◌, ◌≢◌, ◌<◌, ◌≤◌, ◌+◌, ℕ, [], true, length, slice_get, Some, OnOk, OnErr, IfSome};
-ghost use Rattle.served_files.specs.Tickets.{Finds, KeepsFound};
+ghost use Rattle.served_files.specs.Tickets.{FindsTicket, KeepsFound};
 
 use ff_xdr::NoMemory;
 use std::alloc::Global;
@@ -20,13 +20,13 @@ pub struct Tickets {
 }
 
 impl Model for Tickets {
-    ghost use Rattle.served_files.specs.Tickets.{TicketsValue, AreRising};
+    ghost use Rattle.served_files.specs.Tickets.{TicketsValue, AreRisingNumbers};
 
     ghost Value = { TicketsValue };
 
     ghost view = { λ t. record { is_whole = t.is_whole; tickets = t.tickets.items; out = t.out.entries } };
 
-    ghost invariant = { λ t. AreRising t.tickets.items };
+    ghost invariant = { λ t. AreRisingNumbers t.tickets.items };
 }
 
 impl Tickets {
@@ -50,7 +50,7 @@ impl Tickets {
 
     /// The place for which a number was entered. It costs the logarithm of how many places and numbers there are.
     pub fn find(&self, xid: u32) -> Option<usize>
-        ensures found { (place : ℕ) → Finds self.now xid place → result ≡ Some place }
+        ensures found { (place : ℕ) → FindsTicket self.now xid place → result ≡ Some place }
         ensures within { IfSome result (λ place. place < length self.now.tickets) }
     {
         let ticket = *self.out.get(&xid)?;
@@ -89,7 +89,7 @@ impl Tickets {
     pub fn enter(&mut self, place: usize, xid: u32) -> Result<(), NoMemory>
         requires { self.old.is_whole ≡ true → place < length self.old.tickets }
         ensures was { self.new.is_whole ≡ true → self.old.is_whole ≡ true }
-        ensures found { OnOk result (self.new.is_whole ≡ true → Finds self.new xid place) }
+        ensures found { OnOk result (self.new.is_whole ≡ true → FindsTicket self.new xid place) }
         ensures kept { KeepsFound self.old self.new }
         ensures len { length self.new.tickets ≡ length self.old.tickets }
     {
@@ -107,7 +107,7 @@ impl Tickets {
     /// A number stands for no place any more.
     pub fn forget(&mut self, xid: u32)
         ensures was { self.new.is_whole ≡ self.old.is_whole }
-        ensures others { (x place : ℕ) → x ≢ xid → Finds self.old x place → Finds self.new x place }
+        ensures others { (x place : ℕ) → x ≢ xid → FindsTicket self.old x place → FindsTicket self.new x place }
         ensures len { length self.new.tickets ≡ length self.old.tickets }
     {
         self.out.remove(&xid);
@@ -125,8 +125,8 @@ impl Tickets {
     pub fn remove(&mut self, place: usize)
         requires { self.old.is_whole ≡ true → place < length self.old.tickets }
         ensures was { self.new.is_whole ≡ self.old.is_whole }
-        ensures before { self.new.is_whole ≡ true → (xid p : ℕ) → p < place → Finds self.old xid p → Finds self.new xid p }
-        ensures behind { self.new.is_whole ≡ true → (xid p : ℕ) → place ≤ p → Finds self.old xid (p + 1) → Finds self.new xid p }
+        ensures before { self.new.is_whole ≡ true → (xid p : ℕ) → p < place → FindsTicket self.old xid p → FindsTicket self.new xid p }
+        ensures behind { self.new.is_whole ≡ true → (xid p : ℕ) → place ≤ p → FindsTicket self.old xid (p + 1) → FindsTicket self.new xid p }
         ensures len { self.new.is_whole ≡ true → length self.new.tickets + 1 ≡ length self.old.tickets }
     {
         if self.is_whole {

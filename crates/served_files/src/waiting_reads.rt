@@ -43,7 +43,7 @@ impl Model for WaitingReads {
 
 impl WaitingReads {
     /// None waits. Takes no memory.
-    pub fn new(alloc: Global) -> WaitingReads
+    pub(crate) fn new(alloc: Global) -> WaitingReads
         ensures { result ≡ [] }
     {
         WaitingReads {
@@ -60,7 +60,7 @@ impl WaitingReads {
     }
 
     /// The one at this place.
-    pub fn get(&self, n: usize) -> Option<&WaitingRead>
+    pub(crate) fn get(&self, n: usize) -> Option<&WaitingRead>
         ensures { option_copied result ≡ slice_get self.now n }
     {
         self.reads.get(n)
@@ -82,14 +82,14 @@ impl WaitingReads {
     }
 
     /// The call of this number is that of one of them.
-    pub fn has_out(&self, xid: u32) -> bool
+    pub(crate) fn has_out(&self, xid: u32) -> bool
         ensures { result ≡ list_any (is_read_out xid) self.now }
     {
         self.place_out(xid).is_some()
     }
 
     /// A READ at these mirrors begins, and the compound waits for it. Takes memory.
-    pub fn begin(
+    pub(crate) fn begin(
         &mut self,
         compound: KeptRun,
         live: Mirrors,
@@ -107,7 +107,7 @@ impl WaitingReads {
     }
 
     /// All begin again with these mirrors where a mirror came into the live list.
-    pub fn restart_behind(&mut self, told: &[Entry], live: Mirrors)
+    pub(crate) fn restart_behind(&mut self, told: &[Entry], live: Mirrors)
         ensures { self.new ≡ reads_behind told.now live self.old }
     {
         if !has_swap(told) {
@@ -118,7 +118,7 @@ impl WaitingReads {
     }
 
     /// The answer to the READ of this number. The compound whose READ has ended goes on. Takes memory.
-    pub fn answer(
+    pub(crate) fn answer(
         &mut self,
         alloc: Global,
         xid: u32,
@@ -139,7 +139,7 @@ impl WaitingReads {
     }
 
     /// A timeout of the READ of this number. Takes memory.
-    pub fn time_out(
+    pub(crate) fn time_out(
         &mut self,
         xid: u32,
         entries: &mut Vec<Entry>,
@@ -194,7 +194,7 @@ impl WaitingReads {
     }
 
     /// The READ at this place goes out under this number, by uid 0; `None` where it does not wait. Takes memory.
-    pub fn send(
+    pub(crate) fn send(
         &mut self,
         alloc: Global,
         file: FileId,

@@ -2,13 +2,13 @@ use Rattle.std.proofs.Common.{ℕ, ◌<◌, ◌≤◌, ◌+◌, ◌-◌, ◌/◌
 use Rattle.std.proofs.lemmas.List.{append_assoc}
 use Rattle.data_file.proofs.Parts.{part_on}
 use Rattle.file_pages.specs.Pages.{page_over, byte_in, first_bytes}
-use Rattle.data_file.specs.Paged.{part_of}
+use Rattle.data_file.specs.Paged.{part_of, upper_of}
 use Rattle.data_file.proofs.part.put_pages.Goals as goal
 
 pub loop-at-preserved : goal.loop-at-preserved
 loop-at-preserved c =
     let s = c.args.stable.now in
-    let d = c.args.dirty.now in
+    let d = upper_of c.args.dirty in
     let at : ℕ = c.loop-at.at in
     let next : ℕ = c.min-next.result in
     let is = c.min-next.ensures in

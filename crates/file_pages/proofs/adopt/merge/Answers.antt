@@ -1,6 +1,6 @@
 use Rattle.std.proofs.Common.{◌≡◌, ◌∷◌, List, reverse, sym, ap, ◌∙◌, subst, arith}
 use Rattle.file_pages.specs.Pages.{page_over}
-use Rattle.file_pages.specs.Places.{AreKept}
+use Rattle.file_pages.specs.Places.{AreSoundPages}
 use Rattle.file_pages.proofs.PlaceLemmas.{Numbered}
 use Rattle.file_pages.proofs.PutLemmas.{merged, left_rest, next_below, reverse_last}
 use Rattle.file_pages.proofs.adopt.merge.Goals as goal
@@ -12,7 +12,7 @@ loop-page-preserved c =
     let page = c.in-Some.page in
     let rest = reverse c.pop.new.self.items in
     let there : reverse c.loop-page.dirty.items ≡ page ∷ rest = ap (λ (ps : List Numbered). reverse ps) c.in-Some.ensures.items ∙ reverse_last c.pop.new.self.items page in
-    let left : AreKept (page ∷ rest) = subst (λ (ps : List Numbered). AreKept ps) there c.loop-page.invariant.left in
+    let left : AreSoundPages (page ∷ rest) = subst (λ (ps : List Numbered). AreSoundPages ps) there c.loop-page.invariant.left in
     let put = c.put-next.ensures.put in
     let fewer = c.in-Some.ensures.len in
     let more = put.len in

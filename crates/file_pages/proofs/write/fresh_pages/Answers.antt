@@ -28,7 +28,7 @@ loop-number-preserved c =
     let page = c.in_ok-made.field-0 in
     let absent : is_numbered number (slice_get old c.loop-number.place) ≡ false = sym c.is_at.ensures ∙ c.if-is_at.false in
     let made : page ≡ (number, page_written (kept_page number base) number at bytes) =
-    c.in_ok-made.ensures ∙ ap (λ (under : Option (List ℕ)). let p : Numbered = (number, page_written under number at bytes) in p) c.bytes_of.ensures.exact in
+    c.in_ok-made.ensures ∙ ap (λ (under : Option (List ℕ)). let p : Numbered = (number, page_written under number at bytes) in p) c.page_bytes.ensures.exact in
     let pushed : c.push.new.self.items ≡ fresh ++ page ∷ [] = c.in_ok-push.ensures.items in
     let touched : touches at (length bytes) number ≡ true = touched_between at (length bytes) number c.requires.some c.loop-number.auto.number (rw c.end_of-number-end.ensures at c.loop-number-test.true) in
     record {

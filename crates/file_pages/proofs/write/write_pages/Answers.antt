@@ -1,6 +1,6 @@
 use Rattle.std.proofs.Common.{◌≡◌, ℕ, ◌+◌, ◌≤◌, List, length, ap, ◌∙◌, arith}
 use Rattle.file_pages.specs.Pages.{kept_page, page_over}
-use Rattle.file_pages.specs.Places.{IsPlaceOf}
+use Rattle.file_pages.specs.Places.{IsPagePlace}
 use Rattle.file_pages.specs.Steps.{first_touched, end_touched, written_in, AreFresh}
 use Rattle.file_pages.proofs.PlaceLemmas.{Numbered}
 use Rattle.file_pages.proofs.WriteLemmas.{written_kept, fresh_kept_all, fresh_behind, length_written, pages_written}
@@ -15,7 +15,7 @@ merge-requires-clause-dirty c = fresh_kept_all _ _ _ _ _ _ c.in_ok-fresh.ensures
 
 pub merge-requires-clause-within : goal.merge-requires-clause-within
 merge-requires-clause-within c =
-    let is : IsPlaceOf (first_touched c.args.at) c.args.pages.now.items c.seek-place.result = rw c.deref.ensures.value at c.seek-place.ensures in
+    let is : IsPagePlace (first_touched c.args.at) c.args.pages.now.items c.seek-place.result = rw c.deref.ensures.value at c.seek-place.ensures in
     let within = is.within in
     let same : length c.write_kept.new.pages.items ≡ length c.args.pages.now.items = ap (λ (ps : List Numbered). length ps) c.write_kept.ensures.items ∙ length_written c.args.at c.args.bytes.now c.reserve.new.self.items ∙ ap (λ (ps : List Numbered). length ps) c.in_ok-reserve.ensures.items in
     let long = c.write_kept.new.pages.ok.0 in
@@ -23,7 +23,7 @@ merge-requires-clause-within c =
 
 pub merge-requires-clause-below : goal.merge-requires-clause-below
 merge-requires-clause-below c =
-    let is : IsPlaceOf (first_touched c.args.at) c.args.pages.now.items c.seek-place.result = rw c.deref.ensures.value at c.seek-place.ensures in
+    let is : IsPagePlace (first_touched c.args.at) c.args.pages.now.items c.seek-place.result = rw c.deref.ensures.value at c.seek-place.ensures in
     rw (c.write_kept.ensures.items, c.in_ok-reserve.ensures.items) (fresh_behind c.args.at c.args.bytes.now c.args.pages.now.items c.in_ok-fresh.fresh.items c.seek-place.result is c.in_ok-fresh.ensures.rise)
 
 pub merge-requires-clause-room : goal.merge-requires-clause-room

@@ -1,4 +1,5 @@
 use Rattle.std.proofs.Common.{sym}
+use Rattle.data_file.specs.Paged.{upper_of}
 use Rattle.data_file.proofs.Parts.{part_length}
 use Rattle.data_file.proofs.part.FilePart.count.Goals as goal
 
@@ -6,4 +7,4 @@ pub returns : goal.returns
 returns c =
     let p = c.self.inside in
     let within = c.self.invariant.1 in
-    rw (← c.self.view_is) (sym (part_length p.stable.now p.dirty.now p.from p.end within))
+    rw (← c.self.view_is) (sym (part_length p.stable.now (upper_of p.dirty) p.from p.end within))

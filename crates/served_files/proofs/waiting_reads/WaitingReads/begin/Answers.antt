@@ -2,7 +2,7 @@ use Rattle.std.proofs.Common.{List, [], ◌∷◌, ◌++◌, sym, ap, subst, ari
 use Rattle.cluster_model.specs.Fences.{is_out}
 use Rattle.mds_io.specs.Reads.{ReadState}
 use Rattle.mds_rule.specs.MdsStates.{WaitingRead}
-use Rattle.served_files.specs.Tickets.{AreFound}
+use Rattle.served_files.specs.Tickets.{AreReadsFound}
 use Rattle.served_files.proofs.FoundReads.{still_found, found_pushed}
 use Rattle.served_files.proofs.waiting_reads.WaitingReads.begin.Goals as goal
 
@@ -15,5 +15,5 @@ invariant_of-self-2 c = λ whole.
     let found = still_found reads c.self.inside.tickets old.1 t c.in_ok-push.ensures.kept in
     let more = found_pushed reads t found w (λ xid. ap (λ (r : ReadState). is_out xid r.stage) c.start-read.ensures) in (
       omega (arith, old.0, c.in_ok-push.ensures.ok whole, c.in_ok-reserve.ensures.len, c.in_ok-push-2.ensures.len),
-      subst (λ (l : List WaitingRead). AreFound l t) (sym c.in_ok-push-2.ensures.items) (subst (λ (l : List WaitingRead). AreFound (l ++ w ∷ []) t) (sym c.in_ok-reserve.ensures.items) more),
+      subst (λ (l : List WaitingRead). AreReadsFound l t) (sym c.in_ok-push-2.ensures.items) (subst (λ (l : List WaitingRead). AreReadsFound (l ++ w ∷ []) t) (sym c.in_ok-reserve.ensures.items) more),
     )

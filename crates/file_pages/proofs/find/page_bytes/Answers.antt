@@ -1,7 +1,7 @@
 use Rattle.std.proofs.Common.{Some, sym, ap, ◌∙◌}
 use Rattle.file_pages.proofs.PlaceLemmas.{found_page, found_other, found_none}
-use Rattle.file_pages.proofs.find.bytes_of.Goals as goal
-use Rattle.file_pages.proofs.find.bytes_of.Goals.{in_default-via-in-Some+else-number, in_default-via-in_default}
+use Rattle.file_pages.proofs.find.page_bytes.Goals as goal
+use Rattle.file_pages.proofs.find.page_bytes.Goals.{in_default-via-in-Some+else-number, in_default-via-in_default}
 
 pub returns-in-Some-clause-exact : goal.returns-in-Some-clause-exact
 returns-in-Some-clause-exact c =
