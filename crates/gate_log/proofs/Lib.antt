@@ -3,7 +3,9 @@ pub mod LogLemmas
 pub mod BodyLemmas
 pub mod ReadyLemmas
 pub mod TornLogs
-pub mod AppendLemmas
 pub mod HeadLemmas
 pub mod FrontLemmas
 pub mod ReadLemmas
+pub mod WriteLemmas
+pub mod WaitingLemmas
+pub mod StageLemmas

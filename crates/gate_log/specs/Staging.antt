@@ -2,7 +2,8 @@
 --
 -- They are written behind the log's closed gate, each with its own gate open, and a closed gate behind the last. Until the log's gate is opened none
 -- of them is part of it; once it is, all are.
-use Rattle.std.specs.Prelude.{⊤, ◌≡◌, ◌⊎◌, ℕ, ◌+◌, ◌<◌, List, [], ◌∷◌, ◌++◌, length, take, drop, max, Bool, true, false, Option, Some, None, Result, Ok, Err}
+use Rattle.std.specs.Prelude.{⊤, ◌≡◌, ◌⊎◌, ℕ, ◌+◌, ◌^◌, ◌<◌, List, [], ◌∷◌, ◌++◌, length, take, drop, max, Bool, true, false, Option, Some, None, Result, Ok, Err}
+use Rattle.std.specs.List.{AllByRecursion}
 use Rattle.rpc_record.specs.declared.stream.Failed.{Failed}
 use Rattle.store_disk.specs.Disks.{DiskLife, AllImages, LeavesSince}
 use Rattle.gate_log.specs.Logs.{Closed, gate_of, gated_all, log_of, log_size}
@@ -18,6 +19,10 @@ waiting_bytes staged = drop 1 (gated_all staged ++ 0 ∷ [])
 abbrev pub IsSameToGate : List ℕ → ℕ → List ℕ → Type 0
 IsSameToGate bytes end left = take (end + 1) left ≡ take (end + 1) bytes
 
+-- each body has fewer than 4,294,967,296 bytes, so that its length is told by four
+abbrev pub AreShort : List (List ℕ) → Type 0
+AreShort staged = AllByRecursion (λ body. length body < 2 ^ 32) staged
+
 -- A disk holds a whole log with these bodies, whose last gate byte stands at `end`, and behind it records that wait; the closed gate behind them
 -- stands at `at`. Whatever a crash tears, it leaves all up to the log's gate.
 pub record StagesLog (life : DiskLife) (bodies staged : List (List ℕ)) (end at : ℕ) : Type 0 where
@@ -27,6 +32,7 @@ pub record StagesLog (life : DiskLife) (bodies staged : List (List ℕ)) (end at
   pub waiting : take (length (waiting_bytes staged)) (drop (end + 1) life.now.seen) ≡ waiting_bytes staged
   pub at_is : at ≡ end + log_size staged
   pub within : at < length life.now.seen
+  pub short : AreShort staged
   pub left : AllImages (IsSameToGate life.now.seen end) life.now
 
 -- the same of a disk that may tell nothing
@@ -61,6 +67,20 @@ pub record SealsLog (old : Option DiskLife) (bodies staged : List (List ℕ)) (a
 -- the bytes are as they were, or have a log with no record
 abbrev pub IsSameOrEmpty : List ℕ → List ℕ → Type 0
 IsSameOrEmpty bytes left = (left ≡ bytes) ⊎ HasBodies [] left
+
+-- all is synced, and the first gate is closed
+abbrev pub KeepsClosedGate : Option DiskLife → Type 0
+KeepsClosedGate None = ⊤
+KeepsClosedGate (Some life) = IsSynced life × (gate_of life.now.seen ≡ Closed)
+
+pub record ClosesGate (old : DiskLife) (result : Result (Unit {0}) Failed) (new : Option DiskLife) : Type 0 where
+  pub crash : LeavesSince (Some old) new (IsSameOrEmpty old.now.seen)
+  pub kept : (x : Unit {0}) → result ≡ Ok x → KeepsClosedGate new
+
+-- What closing the first gate did of a disk of which all was synced.
+abbrev pub ClosesFirst : Option DiskLife → Result (Unit {0}) Failed → Option DiskLife → Type 0
+ClosesFirst None result new = new ≡ None
+ClosesFirst (Some old) result new = IsSynced old → ClosesGate old result new
 
 pub record Clears (old : DiskLife) (result : Result (Unit {0}) Failed) (new : Option DiskLife) : Type 0 where
   pub crash : LeavesSince (Some old) new (IsSameOrEmpty old.now.seen)
