@@ -9,3 +9,7 @@ pub mod ReadLemmas
 pub mod WriteLemmas
 pub mod WaitingLemmas
 pub mod StageLemmas
+pub mod SealLemmas
+pub mod AppendLemmas
+pub mod ClearLemmas
+pub mod EndLemmas

@@ -1,7 +1,8 @@
 -- A record is written behind those that wait.
 use Rattle.std.proofs.Common.{◌≡◌, ◌≢◌, ℕ, ◌+◌, ◌-◌, ◌^◌, ◌<◌, ◌≤◌, List, [], ◌∷◌, ◌++◌, length, take, drop, max, Option, Some, None, Result, Ok, Err, ◌⊎◌, inl, inr, refl, sym, ap, subst, ◌∙◌, arith}
 use Rattle.std.proofs.lemmas.Bool.{cases_lt}
-use Rattle.std.proofs.lemmas.List.{length-drop, length-append}
+use Rattle.std.proofs.lemmas.List.{length-drop}
+use Rattle.std.proofs.Math.Seq.{take-length}
 use Rattle.cluster_model.specs.Content.{overlay}
 use Rattle.cluster_model.proofs.Placing.{length-overlay, length-overlay-end}
 use Rattle.rpc_record.specs.declared.stream.Failed.{Failed}
@@ -55,6 +56,10 @@ stages_in life bodies staged end at w left = record {
 -- what is left of a log is the same log
 pub same_bodies : (bytes : List ℕ) (bodies : List (List ℕ)) (end : ℕ) → HasLog bytes bodies end → (left : List ℕ) → IsSameToGate bytes end left → HasBodies bodies left
 same_bodies bytes bodies end has left same = disk_log bodies left (up_to_gate bytes bodies end has left same).log
+
+-- a record's bytes from a place on, as a slice gives them
+pub sliced : (from : ℕ) (bytes whole : List ℕ) → bytes ≡ whole → take (length bytes - from) (drop from bytes) ≡ drop from whole
+sliced from bytes whole is = ap (λ (n : ℕ). take n (drop from bytes)) (sym (length-drop from bytes)) ∙ take-length (drop from bytes) ∙ ap (drop from) is
 
 none_of : (staged : List (List ℕ)) → log_size staged ≡ 0 → staged ≡ []
 none_of [] is = refl
