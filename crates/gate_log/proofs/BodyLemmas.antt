@@ -29,9 +29,14 @@ pub body_length : (bytes : List ℕ) → HasGatedBody bytes → length bytes ≡
 body_length bytes has = ap length has.bytes_are ∙ length-with_gates (body_in bytes)
 
 -- a head that is put over five bytes of room
-pub framed_bytes : (room bytes : List ℕ) → 5 ≤ length room → bytes ≡ (1 ∷ word (length room - 5)) ++ drop 5 (room ++ 0 ∷ []) → bytes ≡ with_gates (drop 5 room)
-framed_bytes room bytes long is =
-    let count : length (drop 5 room) ≡ length room - 5 = length-drop 5 room in
-    let behind : drop 5 (room ++ 0 ∷ []) ≡ drop 5 room ++ 0 ∷ [] = drop-append-le 5 room (0 ∷ []) long in
-    is ∙ ap (λ (xs : List ℕ). (1 ∷ word (length room - 5)) ++ xs) behind ∙ ap (λ (n : ℕ). (1 ∷ word n) ++ (drop 5 room ++ 0 ∷ [])) (sym count)
-    ∙ sym (append_assoc (1 ∷ word (length (drop 5 room))) (drop 5 room) (0 ∷ []))
+pub framed_bytes : (room bytes slice : List ℕ) (n : ℕ) → 5 ≤ length room → n ≡ length room → slice ≡ room ++ 0 ∷ [] → bytes ≡ (1 ∷ word (n - 5)) ++ drop 5 slice → bytes ≡ with_gates (drop 5 room)
+framed_bytes room bytes slice n long count now is =
+    let body : List ℕ = drop 5 room in
+    let size : n - 5 ≡ length body = omega (arith, count, length-drop 5 room) in
+    let behind : drop 5 slice ≡ body ++ 0 ∷ [] = ap (drop 5) now ∙ drop-append-le 5 room (0 ∷ []) long in
+    is ∙ ap (λ (k : ℕ). (1 ∷ word k) ++ drop 5 slice) size ∙ ap (λ (xs : List ℕ). (1 ∷ word (length body)) ++ xs) behind
+    ∙ sym (append_assoc (1 ∷ word (length body)) body (0 ∷ []))
+
+-- a slice that was written and given back
+pub slice_back : (slice items : List ℕ) (n : ℕ) → length slice ≡ n → take n (slice ++ drop (length slice) items) ≡ slice
+slice_back slice items n long = take_at slice (drop (length slice) items) n long

@@ -123,13 +123,13 @@ closes_looked old asked looked result new same later h = subst (λ (o : Option D
 
 -- ---- the disk is cut to its first gate
 
-first_kept : (bytes left : List ℕ) → gate_of bytes ≡ Closed → TornLength 1 bytes left → gate_of left ≡ Closed
-first_kept bytes left closed torn =
-    let one : min (length bytes) 1 ≡ 1 = omega (arith, closed_some bytes closed) in
-    closed_again bytes left closed (ap (λ (n : ℕ). take n left) (sym one) ∙ torn.below)
+first_kept : (there left : List ℕ) → gate_of there ≡ Closed → TornLength 1 there left → gate_of left ≡ Closed
+first_kept there left closed torn =
+    let one : min (length there) 1 ≡ 1 = omega (arith, closed_some there closed) in
+    closed_again there left closed (ap (λ (n : ℕ). take n left) (sym one) ∙ torn.below)
 
-resized_one : (bytes : List ℕ) → length (resized bytes 1) ≡ 1
-resized_one bytes = omega (arith, length-take 1 (bytes ++ replicate (1 - length bytes) 0), length-append bytes (replicate (1 - length bytes) 0), length-replicate (1 - length bytes) 0)
+resized_one : (there : List ℕ) → length (resized there 1) ≡ 1
+resized_one there = simp (length-take, length-append, length-replicate) (omega arith)
 
 module _ (first : DiskLife) (closed : Option DiskLife) (since : LeavesSince (Some first) closed (IsSameOrEmpty first.now.seen)) (keeps : KeepsClosedGate closed) where
   abbrev Empties : List ℕ → Type 0

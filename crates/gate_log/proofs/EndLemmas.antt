@@ -1,5 +1,5 @@
 -- Where a log ends.
-use Rattle.std.proofs.Common.{◌≡◌, ℕ, ◌+◌, ◌-◌, ◌<◌, ◌≤◌, Bool, true, false, List, [], length, take, drop, Option, Some, None, Ok, sym, ap, subst, ◌∙◌, arith}
+use Rattle.std.proofs.Common.{◌≡◌, ℕ, ◌+◌, ◌-◌, ◌<◌, ◌≤◌, Bool, true, false, List, [], ◌∷◌, ◌++◌, length, take, drop, Option, Some, None, Ok, sym, ap, subst, ◌∙◌, arith}
 use Rattle.std.proofs.lemmas.List.{length-drop, length-take-le}
 use Rattle.store_disk.specs.Disks.{DiskLife}
 use Rattle.store_disk.proofs.Leaving.{Told}
@@ -26,7 +26,8 @@ more_bytes bytes at n bodies read opens =
     let body : List ℕ = take n (drop 5 (drop at bytes)) in
     let long : length body ≡ n = length-take-le n (drop 5 (drop at bytes)) (omega (arith, opens.within, length-drop 5 (drop at bytes))) in
     let gate : gate_of (drop at bytes) ≡ Opens body (drop (5 + length body) (drop at bytes)) = opens.gate ∙ ap (λ (k : ℕ). Opens body (drop (5 + k) (drop at bytes))) (sym long) in
-    (_, subst (λ (k : ℕ). HasRead bytes _ (at + (5 + k))) long (read_more bytes bodies at body read gate))
+    let all : List (List ℕ) = bodies ++ body ∷ [] in
+    (all, subst (λ (k : ℕ). HasRead bytes all (at + (5 + k))) long (read_more bytes bodies at body read gate))
 
 left_of : (bytes : List ℕ) (size at : ℕ) → size ≡ length bytes → size - at ≡ length (drop at bytes)
 left_of bytes size at is = omega (arith, is, length-drop at bytes)

@@ -100,7 +100,7 @@ seen_told : (told : Option DiskLife) → Told told (λ life. life.now.seen ≡ s
 seen_told None = tt
 seen_told (Some life) = refl
 
-size_by : (told : Option DiskLife) (n : ℕ) → Told told (λ life. length life.now.seen ≡ n) → HasSize told n
+pub size_by : (told : Option DiskLife) (n : ℕ) → Told told (λ life. length life.now.seen ≡ n) → HasSize told n
 size_by None n h = tt
 size_by (Some life) n h = h
 

@@ -1,6 +1,7 @@
-use Rattle.std.proofs.Common.{ap, ◌∙◌, Result, ℕ}
+use Rattle.std.proofs.Common.{ap, sym, ◌∙◌, Result, Err, ℕ}
 use Rattle.std.proofs.lemmas.Result.{err_from_is_err_and}
 use Rattle.rpc_record.specs.Stream.{counted}
+use Rattle.rpc_record.specs.declared.stream.Failed.{Failed}
 use Rattle.gate_log.proofs.ClearLemmas.{closes_looked, closes_sync, closes_write, opens_looked}
 use Rattle.gate_log.proofs.staging.close_first.Goals as goal
 
@@ -15,7 +16,8 @@ returns-in_err-write_at g c =
           (closes_write looked c.from_residual-in_err-write_at.result c.in_err-write_at.field-0.0 p.0 (g.D.Disk.told c.write_at.new.self)
           (opens_looked old asked looked c.in_ok-size.size c.in_ok-read_head.field-0 c.in_ok-size.ensures.told c.in_ok-size.ensures.same c.in_ok-read_head.ensures.told c.in_ok-read_head.ensures.same c.in_default.not-Closed)
           p.1 c.in_err-write_at.ensures.told);
-      faults = ?;
+      faults = c.in_err-write_at.ensures.faults ∙ ap (λ (r : Result (Unit {0}) Failed). counted {T = Unit {0}} r (g.D.Disk.faults c.read_head.new.disk)) (sym (p.1 ∙ ap Err p.2))
+          ∙ ap (counted c.from_residual-in_err-write_at.result) (c.in_ok-read_head.ensures.faults ∙ c.in_ok-size.ensures.faults);
     }
 
 pub returns : goal.returns
