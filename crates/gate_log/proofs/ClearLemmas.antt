@@ -1,18 +1,18 @@
 -- A disk is cleared.
-use Rattle.std.proofs.Common.{◌≡◌, ◌≢◌, ℕ, ◌+◌, ◌-◌, ◌<◌, ◌≤◌, List, [], ◌∷◌, ◌++◌, length, take, drop, get_or, min, replicate, Option, Some, None, Result, Ok, Err, ◌⊎◌, inl, inr, refl, sym, ap, subst, ◌∙◌, arith}
+use Rattle.std.proofs.Common.{◌≡◌, ℕ, List, [], ◌∷◌, length, take, min, Option, Some, None, Result, Ok, Err, ◌⊎◌, inl, inr, refl, sym, ap, subst, ◌∙◌, arith}
 use Rattle.std.proofs.lemmas.Bool.{cases_eq}
 use Rattle.std.proofs.lemmas.List.{length-take, length-append, length-replicate}
 use Rattle.cluster_model.specs.Content.{overlay}
 use Rattle.cluster_model.proofs.Placing.{take-drop-overlay}
 use Rattle.rpc_record.specs.declared.stream.Failed.{Failed}
-use Rattle.store_disk.specs.Disks.{DiskLife, DiskState, AllImages, LeavesSince, Torn, TornLength, Measures, synced_state, with_write, with_length, resized, CutsTo, Syncs, WritesAt}
-use Rattle.store_disk.proofs.Images.{CanTear, CanCut, images_of, sync_now, write_leaves, write_now, cut_now, since_sync, since_cut}
+use Rattle.store_disk.specs.Disks.{DiskLife, DiskState, LeavesSince, Torn, TornLength, Measures, synced_state, with_write, with_length, resized, CutsTo, Syncs, WritesAt}
+use Rattle.store_disk.proofs.Images.{CanCut, images_of, sync_now, write_leaves, write_now, cut_now, since_sync, since_cut}
 use Rattle.store_disk.proofs.Leaving.{Told, told_weaker, since_none}
 use Rattle.store_disk.proofs.Placed.{cut_whole}
-use Rattle.gate_log.specs.Logs.{Absent, Closed, Broken, Opens, gate_of}
-use Rattle.gate_log.specs.Appends.{HoldsLog, IsSynced, KeepsLog}
+use Rattle.gate_log.specs.Logs.{Closed, gate_of}
+use Rattle.gate_log.specs.Appends.{IsSynced, KeepsLog}
 use Rattle.gate_log.specs.Heads.{FindsHead, HeadSays}
-use Rattle.gate_log.specs.Staging.{Clears, ClearsDisk, ClosesFirst, ClosesGate, HasBodies, HasSize, IsSameOrEmpty, KeepsClosedGate}
+use Rattle.gate_log.specs.Staging.{Clears, ClearsDisk, ClosesFirst, HasBodies, IsSameOrEmpty, KeepsClosedGate}
 use Rattle.gate_log.specs.declared.reading.Head.{Head}
 use Rattle.gate_log.specs.declared.reading.Head.TheVariants as head
 use Rattle.gate_log.proofs.GateLemmas.{closed_again, closed_some, gate_other}

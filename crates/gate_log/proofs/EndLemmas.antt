@@ -3,15 +3,13 @@ use Rattle.std.proofs.Common.{◌≡◌, ℕ, ◌+◌, ◌-◌, ◌<◌, ◌≤�
 use Rattle.std.proofs.lemmas.List.{length-drop, length-take-le}
 use Rattle.store_disk.specs.Disks.{DiskLife}
 use Rattle.store_disk.proofs.Leaving.{Told}
-use Rattle.gate_log.specs.Logs.{Log, Absent, Closed, Broken, Opens, gate_of, log_from, log_of, log_size}
-use Rattle.gate_log.specs.Heads.{FindsHead, HeadSays, OpensBody}
+use Rattle.gate_log.specs.Logs.{Log, Closed, Opens, gate_of, log_from, log_of, log_size}
+use Rattle.gate_log.specs.Heads.{FindsHead, OpensBody}
 use Rattle.gate_log.specs.Staging.{FindsEnd, IsEndOf}
-use Rattle.gate_log.specs.declared.reading.Head.{Head}
 use Rattle.gate_log.specs.declared.reading.Head.TheVariants as head
 use Rattle.gate_log.specs.declared.staging.LogEnd.TheVariants as log_end
 use Rattle.gate_log.proofs.LogLemmas.{few_log, many_log}
 use Rattle.gate_log.proofs.ReadLemmas.{HasRead, cut_log, read_none, read_more, read_closed, read_absent, read_broken}
-use Rattle.gate_log.specs.Appends.{whole_log}
 
 -- so far the log of a disk with so many bytes has records, and a gate byte is due at this place
 abbrev pub ReadsTo : Option DiskLife → ℕ → ℕ → Type 0

@@ -9,9 +9,9 @@ use Rattle.store_disk.specs.Disks.{DiskLife, DiskState, LeavesSince, Torn, synce
 use Rattle.store_disk.proofs.Images.{CanTear, sync_leaves, sync_now, write_now, since_sync, since_write}
 use Rattle.store_disk.proofs.Leaving.{Told, told_weaker, told_both, since_told}
 use Rattle.store_disk.proofs.Placed.{torn_whole}
-use Rattle.gate_log.specs.Logs.{Closed, gate_of, gated_all, log_from, log_size}
+use Rattle.gate_log.specs.Logs.{gate_of, gated_all, log_from, log_size}
 use Rattle.gate_log.specs.Appends.{HasEither, HoldsLog, KeepsLog, whole_log}
-use Rattle.gate_log.specs.Staging.{HasSize, IsSameToGate, Stages, SealsLog, waiting_bytes}
+use Rattle.gate_log.specs.Staging.{HasSize, Stages, SealsLog, waiting_bytes}
 use Rattle.gate_log.proofs.GateLemmas.{gate_other}
 use Rattle.gate_log.proofs.LogLemmas.{disk_log, front_log, with_bodies}
 use Rattle.gate_log.proofs.ReadyLemmas.{seen_in}

@@ -6,17 +6,16 @@ use Rattle.std.proofs.Math.Seq.{take-length}
 use Rattle.cluster_model.specs.Content.{overlay}
 use Rattle.cluster_model.proofs.Placing.{length-overlay, length-overlay-end}
 use Rattle.rpc_record.specs.declared.stream.Failed.{Failed}
-use Rattle.store_disk.specs.Disks.{DiskLife, AllImages, LeavesSince, Torn, goes_on, with_write, WritesAt}
-use Rattle.store_disk.proofs.Leaving.{Told, since_weaker, since_new}
+use Rattle.store_disk.specs.Disks.{DiskLife, AllImages, LeavesSince, goes_on, with_write, WritesAt}
+use Rattle.store_disk.proofs.Leaving.{since_weaker, since_new}
 use Rattle.store_disk.proofs.Placed.{torn_whole}
 use Rattle.gate_log.specs.Logs.{Closed, gate_of, log_size}
-use Rattle.gate_log.specs.Appends.{KeepsLog, HoldsLog}
 use Rattle.gate_log.specs.Bodies.{with_gates}
 use Rattle.gate_log.specs.Staging.{AreShort, HasBodies, HasSize, IsSameToGate, StagesLog, Stages, StagesMore, waiting_bytes}
 use Rattle.gate_log.proofs.BodyLemmas.{length-with_gates}
 use Rattle.gate_log.proofs.LogLemmas.{disk_log, log_by_disk, log_size_push}
 use Rattle.gate_log.proofs.TornLogs.{HasLog, up_to_gate}
-use Rattle.gate_log.proofs.WaitingLemmas.{length-gated_all, short_push, waits_more}
+use Rattle.gate_log.proofs.WaitingLemmas.{short_push, waits_more}
 use Rattle.gate_log.proofs.WriteLemmas.{CanWrite, write_more, torn_to_gate}
 
 -- bytes that have a whole log, and behind its last gate byte records that wait

@@ -1,21 +1,14 @@
 -- What a crash makes of a log whose bytes stay the same up to its last gate byte.
-use Rattle.std.proofs.Common.{◌≡◌, ℕ, ◌+◌, ◌^◌, ◌<◌, ◌≤◌, List, [], ◌∷◌, ◌++◌, length, take, drop, get_or, min, refl, sym, ap, subst, ◌∙◌, arith, add-zero, inl, inr}
-use Rattle.std.proofs.lemmas.Bool.{cases_eq}
+use Rattle.std.proofs.Common.{◌≡◌, ℕ, ◌+◌, ◌^◌, ◌<◌, List, length, take, drop, sym, ap, subst, ◌∙◌, arith}
 use Rattle.std.proofs.lemmas.List.{length-take, take-take, drop-take}
 use Rattle.std.proofs.lemmas.Nat.{from_be_bytes-to_be_bytes_4}
-use Rattle.cluster_model.specs.Content.{overlay}
-use Rattle.cluster_model.proofs.Placing.{length-overlay-ge, length-overlay-end, take-drop-overlay, get_or-overlay_inside}
 use Rattle.ff_xdr.specs.Form.{word}
-use Rattle.ff_xdr.proofs.Fields.{length-word}
 use Rattle.rpc_record.specs.Calls.{word_of}
-use Rattle.store_disk.specs.Disks.{DiskLife, DiskState, Torn, synced_state}
-use Rattle.store_disk.proofs.Placed.{torn_whole}
-use Rattle.gate_log.specs.Logs.{Closed, Opens, gate_of, log_from, log_of, log_size}
-use Rattle.gate_log.specs.Appends.{whole_log, KeepsLog, HasEither}
-use Rattle.gate_log.specs.Bodies.{with_gates}
-use Rattle.gate_log.proofs.BodyLemmas.{length-with_gates}
-use Rattle.gate_log.proofs.GateLemmas.{IsRecord, record_gate, record_rest, gate_other, closed_again}
-use Rattle.gate_log.proofs.LogLemmas.{same_log, longer_log, disk_log, log_by_disk, log_size_push}
+use Rattle.store_disk.specs.Disks.{DiskLife, DiskState, synced_state}
+use Rattle.gate_log.specs.Logs.{Closed, gate_of, log_from, log_of, log_size}
+use Rattle.gate_log.specs.Appends.{whole_log, KeepsLog}
+use Rattle.gate_log.proofs.GateLemmas.{closed_again}
+use Rattle.gate_log.proofs.LogLemmas.{same_log, disk_log, log_by_disk}
 
 -- bytes have a whole log with these bodies, whose last gate byte stands at this place
 pub record HasLog (bytes : List ℕ) (bodies : List (List ℕ)) (end : ℕ) : Type 0 where

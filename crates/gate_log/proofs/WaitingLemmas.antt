@@ -1,6 +1,6 @@
 -- The bytes of records that wait, and the log that they become.
-use Rattle.std.proofs.Common.{◌≡◌, ℕ, ◌+◌, ◌-◌, ◌^◌, ◌<◌, ◌≤◌, List, [], ◌∷◌, ◌++◌, length, take, drop, min, ◌⊎◌, inl, inr, refl, sym, ap, subst, ◌∙◌, arith}
-use Rattle.std.proofs.lemmas.List.{append_assoc, append-nil, length-append, length-drop, length-take-le, take-take, take_at, drop-take, drop-drop, drop_at}
+use Rattle.std.proofs.Common.{◌≡◌, ℕ, ◌+◌, ◌-◌, ◌^◌, ◌<◌, ◌≤◌, List, [], ◌∷◌, ◌++◌, length, take, drop, min, ◌⊎◌, inl, inr, refl, sym, ap, ◌∙◌, arith}
+use Rattle.std.proofs.lemmas.List.{append_assoc, append-nil, length-append, length-drop, length-take-le, take-take, take_at, drop-take, drop-drop}
 use Rattle.cluster_model.specs.Content.{overlay}
 use Rattle.cluster_model.proofs.Placing.{take-drop-overlay, length-overlay-ge}
 use Rattle.ff_xdr.specs.Form.{word}
@@ -11,7 +11,7 @@ use Rattle.gate_log.specs.Logs.{Closed, Opens, gate_of, gated, gated_all, log_fr
 use Rattle.gate_log.specs.Appends.{whole_log}
 use Rattle.gate_log.specs.Bodies.{with_gates}
 use Rattle.gate_log.specs.Staging.{AreShort, waiting_bytes}
-use Rattle.gate_log.proofs.BodyLemmas.{length-gated, length-with_gates}
+use Rattle.gate_log.proofs.BodyLemmas.{length-gated}
 use Rattle.gate_log.proofs.FrontLemmas.{take_plus}
 use Rattle.gate_log.proofs.GateLemmas.{IsRecord, record_gate}
 use Rattle.gate_log.proofs.LogLemmas.{log_by_gate, with_bodies}

@@ -1,10 +1,10 @@
 -- Writes to a disk of which not all is synced.
-use Rattle.std.proofs.Common.{◌≡◌, ℕ, ◌+◌, ◌<◌, ◌≤◌, List, length, take, min, Option, Some, None, Result, Ok, Err, inl, inr, sym, ap, subst, ◌∙◌, arith}
+use Rattle.std.proofs.Common.{ℕ, ◌+◌, ◌<◌, ◌≤◌, List, length, take, min, Option, Some, None, Result, Ok, Err, inl, inr, sym, ap, subst, ◌∙◌, arith}
 use Rattle.std.proofs.lemmas.List.{length-take, take-take}
 use Rattle.cluster_model.specs.Content.{overlay}
 use Rattle.rpc_record.specs.declared.stream.Failed.{Failed}
 use Rattle.rpc_record.specs.declared.stream.Failed.TheVariants.{Fault, NoMemory}
-use Rattle.store_disk.specs.Disks.{DiskState, DiskLife, AllImages, LeavesSince, Torn, goes_on, with_write, WritesAt}
+use Rattle.store_disk.specs.Disks.{DiskLife, AllImages, LeavesSince, Torn, goes_on, with_write, WritesAt}
 use Rattle.store_disk.proofs.Images.{seen_image}
 use Rattle.store_disk.proofs.Leaving.{Told, leaves_none, leaves_step}
 use Rattle.store_disk.proofs.Placed.{torn_whole}

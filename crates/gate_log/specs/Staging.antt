@@ -2,7 +2,7 @@
 --
 -- They are written behind the log's closed gate, each with its own gate open, and a closed gate behind the last. Until the log's gate is opened none
 -- of them is part of it; once it is, all are.
-use Rattle.std.specs.Prelude.{⊤, ◌≡◌, ◌⊎◌, ℕ, ◌+◌, ◌^◌, ◌<◌, List, [], ◌∷◌, ◌++◌, length, take, drop, max, Bool, true, false, Option, Some, None, Result, Ok, Err}
+use Rattle.std.specs.Prelude.{⊤, ◌≡◌, ◌⊎◌, ℕ, ◌+◌, ◌^◌, ◌<◌, List, [], ◌∷◌, ◌++◌, length, take, drop, max, true, false, Option, Some, None, Result, Ok, Err}
 use Rattle.std.specs.List.{AllByRecursion}
 use Rattle.rpc_record.specs.declared.stream.Failed.{Failed}
 use Rattle.store_disk.specs.Disks.{DiskLife, AllImages, LeavesSince}

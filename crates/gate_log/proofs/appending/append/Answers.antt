@@ -1,4 +1,4 @@
-use Rattle.std.proofs.Common.{[], ◌∷◌, Ok, Err}
+use Rattle.std.proofs.Common.{[], ◌∷◌, Err}
 use Rattle.std.proofs.lemmas.Result.{err_from_is_err_and}
 use Rattle.gate_log.proofs.AppendLemmas.{appends_in_part, appended, begins, seal_since, staged_first, waits_now}
 use Rattle.gate_log.proofs.appending.append.Goals as goal

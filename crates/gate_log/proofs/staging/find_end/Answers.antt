@@ -3,7 +3,6 @@ use Rattle.store_disk.specs.Disks.{DiskLife}
 use Rattle.gate_log.specs.Heads.{FindsHead, FitsIn}
 use Rattle.gate_log.specs.Staging.{FindsEnd}
 use Rattle.gate_log.specs.declared.reading.Head.{Head}
-use Rattle.gate_log.specs.declared.reading.Head.TheVariants as head
 use Rattle.gate_log.specs.declared.staging.LogEnd.TheVariants as log_end
 use Rattle.gate_log.proofs.EndLemmas.{ReadsTo, reads_more, ends_absent, ends_broken, ends_whole}
 use Rattle.gate_log.proofs.staging.find_end.Goals as goal

@@ -1,4 +1,4 @@
-use Rattle.std.proofs.Common.{◌+◌, ◌-◌, ◌≡◌, length, take, drop, arith}
+use Rattle.std.proofs.Common.{◌+◌, ◌-◌, length, take, drop, arith}
 use Rattle.std.proofs.lemmas.Result.{err_from_is_err_and}
 use Rattle.gate_log.specs.Bodies.{with_gates}
 use Rattle.gate_log.proofs.StageLemmas.{sliced, staged_more, staged_none}

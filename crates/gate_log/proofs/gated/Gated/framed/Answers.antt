@@ -1,5 +1,5 @@
-use Rattle.std.proofs.Common.{◌≡◌, ◌+◌, ◌-◌, ◌<◌, ◌^◌, [], ◌∷◌, ◌++◌, List, ℕ, length, drop, ap, sym, subst, ◌∙◌, arith}
-use Rattle.std.proofs.lemmas.List.{length-append, length-drop}
+use Rattle.std.proofs.Common.{◌≡◌, ◌<◌, ◌^◌, [], ◌∷◌, ◌++◌, List, ℕ, length, drop, ap, sym, subst, ◌∙◌, arith}
+use Rattle.std.proofs.lemmas.List.{length-drop}
 use Rattle.gate_log.specs.Bodies.{HasGatedBody, with_gates}
 use Rattle.gate_log.proofs.BodyLemmas.{framed_bytes, has_body, length-with_gates, slice_back}
 use Rattle.gate_log.proofs.gated.Gated.framed.Goals as goal
