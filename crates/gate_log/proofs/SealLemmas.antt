@@ -14,7 +14,7 @@ use Rattle.gate_log.specs.Appends.{HasEither, HoldsLog, KeepsLog, whole_log}
 use Rattle.gate_log.specs.Staging.{HasSize, Stages, SealsLog, waiting_bytes}
 use Rattle.gate_log.proofs.GateLemmas.{gate_other}
 use Rattle.gate_log.proofs.LogLemmas.{disk_log, front_log, with_bodies}
-use Rattle.gate_log.proofs.ReadyLemmas.{seen_in}
+use Rattle.gate_log.proofs.ReadyLemmas.{seen_in, told_seen}
 use Rattle.gate_log.proofs.StageLemmas.{Waits, waits_in, same_bodies}
 use Rattle.gate_log.proofs.TornLogs.{HasLog, keeps_log, old_log}
 use Rattle.gate_log.proofs.WaitingLemmas.{length-gated_all, log_size_both, with_bodies_both, opened_log, opened_bytes}
@@ -96,10 +96,6 @@ waits_told : (told : Option DiskLife) (bodies staged : List (List ℕ)) (end at 
 waits_told None bodies staged end at h = tt
 waits_told (Some life) bodies staged end at h = waits_in life bodies staged end at h
 
-seen_told : (told : Option DiskLife) → Told told (λ life. life.now.seen ≡ seen_in told)
-seen_told None = tt
-seen_told (Some life) = refl
-
 pub size_by : (told : Option DiskLife) (n : ℕ) → Told told (λ life. length life.now.seen ≡ n) → HasSize told n
 size_by None n h = tt
 size_by (Some life) n h = h
@@ -134,7 +130,7 @@ module _ (old : Option DiskLife) (bodies staged : List (List ℕ)) (end at : ℕ
 
     stands : Told synced Stands
     stands =
-        told_both synced (λ life. life.now ≡ synced_state bytes) (λ _. Held) (sync_now bytes old x synced (seen_told old) syncs) (stays synced (first_synced (Ok x) synced syncs))
+        told_both synced (λ life. life.now ≡ synced_state bytes) (λ _. Held) (sync_now bytes old x synced (told_seen old) syncs) (stays synced (first_synced (Ok x) synced syncs))
 
     pub gate_written : (result : Result (Unit {0}) Failed) (new : Option DiskLife) → WritesAt synced end (1 ∷ []) result new → LeavesSince old new Left
     gate_written result new is =

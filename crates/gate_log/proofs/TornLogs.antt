@@ -8,7 +8,7 @@ use Rattle.store_disk.specs.Disks.{DiskLife, DiskState, synced_state}
 use Rattle.gate_log.specs.Logs.{Closed, gate_of, log_from, log_of, log_size}
 use Rattle.gate_log.specs.Appends.{whole_log, KeepsLog}
 use Rattle.gate_log.proofs.GateLemmas.{closed_again}
-use Rattle.gate_log.proofs.LogLemmas.{same_log, disk_log, log_by_disk}
+use Rattle.gate_log.proofs.LogLemmas.{same_log, disk_log}
 
 -- bytes have a whole log with these bodies, whose last gate byte stands at this place
 pub record HasLog (bytes : List ℕ) (bodies : List (List ℕ)) (end : ℕ) : Type 0 where
@@ -16,14 +16,6 @@ pub record HasLog (bytes : List ℕ) (bodies : List (List ℕ)) (end : ℕ) : Ty
   pub end_is : end ≡ log_size bodies
   pub within : end < length bytes
   pub closed : gate_of (drop end bytes) ≡ Closed
-
-pub has_log : (life : DiskLife) (bodies : List (List ℕ)) (end : ℕ) → KeepsLog life bodies end → HasLog life.now.seen bodies end
-has_log life bodies end keeps = record {
-  log = log_by_disk bodies life.now.seen keeps.log (subst (λ (n : ℕ). gate_of (drop n life.now.seen) ≡ Closed) keeps.end_is keeps.closed);
-  end_is = keeps.end_is;
-  within = keeps.within;
-  closed = keeps.closed;
-}
 
 pub keeps_log : (life : DiskLife) (bytes : List ℕ) (bodies : List (List ℕ)) (end : ℕ) → life.now ≡ synced_state bytes → HasLog bytes bodies end → KeepsLog life bodies end
 keeps_log life bytes bodies end is has =
