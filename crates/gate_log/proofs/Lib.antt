@@ -3,7 +3,13 @@ pub mod LogLemmas
 pub mod BodyLemmas
 pub mod ReadyLemmas
 pub mod TornLogs
-pub mod AppendLemmas
 pub mod HeadLemmas
 pub mod FrontLemmas
 pub mod ReadLemmas
+pub mod WriteLemmas
+pub mod WaitingLemmas
+pub mod StageLemmas
+pub mod SealLemmas
+pub mod AppendLemmas
+pub mod ClearLemmas
+pub mod EndLemmas

@@ -102,7 +102,7 @@ front_log (body ∷ bodies) bytes others log same =
     ∙ ap (with_body body) (front_log bodies f.rest (drop n others) f.behind behind
     ∙ ap (λ (xs : List ℕ). with_bodies bodies (log_from xs)) (drop-drop size n others))
 
--- ---- the same log, or a longer one
+-- ---- the same log
 
 closed_log : (bytes : List ℕ) → gate_of bytes ≡ Closed → log_from bytes ≡ ended_log true
 closed_log bytes is = log_by_gate bytes Closed is
@@ -111,13 +111,6 @@ pub same_log : (bodies : List (List ℕ)) (bytes others : List ℕ) → log_from
     → log_from others ≡ whole_log bodies
 same_log bodies bytes others log same closed =
     front_log bodies bytes others log same ∙ ap (with_bodies bodies) (closed_log (drop (log_size bodies) others) closed) ∙ with_bodies_whole bodies
-
-pub longer_log : (bodies : List (List ℕ)) (bytes others body rest : List ℕ) → log_from bytes ≡ whole_log bodies → take (log_size bodies) others ≡ take (log_size bodies) bytes
-    → gate_of (drop (log_size bodies) others) ≡ Opens body rest → gate_of rest ≡ Closed → log_from others ≡ whole_log (bodies ++ body ∷ [])
-longer_log bodies bytes others body rest log same opens closed =
-    let behind : log_from (drop (log_size bodies) others) ≡ with_body body (ended_log true) =
-    log_by_gate (drop (log_size bodies) others) (Opens body rest) opens ∙ ap (with_body body) (closed_log rest closed) in
-    front_log bodies bytes others log same ∙ ap (with_bodies bodies) behind ∙ sym (with_bodies_push bodies body (ended_log true)) ∙ with_bodies_whole (bodies ++ body ∷ [])
 
 -- ---- the log of a disk
 

@@ -31,7 +31,7 @@ read_more bytes bodies at body read opens = record {
 pub read_closed : (bytes : List ℕ) (bodies : List (List ℕ)) (at : ℕ) → HasRead bytes bodies at → gate_of (drop at bytes) ≡ Closed → log_from bytes ≡ whole_log bodies
 read_closed bytes bodies at read closed = read.log ∙ ap (with_bodies bodies) (log_by_gate (drop at bytes) Closed closed) ∙ with_bodies_whole bodies
 
-abbrev cut_log : List (List ℕ) → Log
+abbrev pub cut_log : List (List ℕ) → Log
 cut_log bodies = record { bodies = bodies; is_whole = false }
 
 with_bodies_cut : (bodies : List (List ℕ)) → with_bodies bodies (ended_log false) ≡ cut_log bodies

@@ -34,9 +34,10 @@ HeadSays bytes head.Closed = gate_of bytes ≡ Closed
 HeadSays bytes head.Broken = gate_of bytes ≡ Broken
 HeadSays bytes (head.Opens n) = OpensBody bytes n
 
--- the body lies within so many bytes
+-- the gate byte, and the body, lie within so many bytes
 abbrev pub FitsIn : ℕ → Head → Type 0
 FitsIn left (head.Opens n) = 5 + n ≤ left
+FitsIn left head.Closed = 0 < left
 FitsIn left head = ⊤
 
 abbrev pub FindsHead : Option DiskLife → ℕ → ℕ → Result Head Failed → Type 0

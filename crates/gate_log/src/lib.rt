@@ -2,7 +2,11 @@
 #![tactic(auto)]
 
 mod appending;
+mod gated;
 mod reading;
+mod staging;
 
-pub use appending::{Gated, append, make_ready};
+pub use appending::{append, make_ready};
+pub use gated::Gated;
 pub use reading::{Found, find_gate};
+pub use staging::{LogEnd, clear, find_end, seal, stage};

@@ -5,6 +5,7 @@ ghost use Rattle.rpc_record.specs.Stream.{counted};
 ghost use Rattle.gate_log.specs.Appends.{FindsGate, LiesWithin};
 ghost use Rattle.gate_log.specs.Heads.{FindsHead, FitsIn, HeadSays, ReadsBody, ReadsFront};
 
+use crate::gated::HEAD;
 use rpc_record::Failed;
 use store_disk::Disk;
 
@@ -23,16 +24,13 @@ pub enum Found {
 
 /// What the bytes before a body say.
 #[derive(Clone, Copy)]
-enum Head {
+pub enum Head {
     Absent,
     Closed,
     Broken,
     /// A body of so many bytes stands behind them.
     Opens { length: u32 },
 }
-
-/// How many bytes stand before a body: the gate byte, and its length in four.
-const HEAD: usize = 5;
 
 /// Reads from the byte `at` on, until the piece is full or the disk gives nothing more. Returns how many bytes were
 /// read.
@@ -77,7 +75,7 @@ fn judge(head: &[u8], left: u64) -> Head
 }
 
 /// Reads what stands before a body at the byte `at`, where `left` bytes are left of the disk.
-fn read_head<D: Disk>(disk: &mut D, at: u64, left: u64) -> Result<Head, Failed>
+pub fn read_head<D: Disk>(disk: &mut D, at: u64, left: u64) -> Result<Head, Failed>
     requires { at + left < 2 ^ 64 }
     ensures told { FindsHead (D.told disk.old) at left result }
     ensures fits { IfOk result (λ head. FitsIn left head) }

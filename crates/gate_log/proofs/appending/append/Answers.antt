@@ -1,46 +1,30 @@
-use Rattle.std.proofs.Common.{Err}
+use Rattle.std.proofs.Common.{[], ◌∷◌, Err}
 use Rattle.std.proofs.lemmas.Result.{err_from_is_err_and}
-use Rattle.gate_log.proofs.AppendLemmas.{appends_in_part, body_written, body_synced, gate_written, gate_synced, appended}
+use Rattle.gate_log.proofs.AppendLemmas.{appends_in_part, appended, begins, seal_since, staged_first, waits_now}
 use Rattle.gate_log.proofs.appending.append.Goals as goal
 
-pub returns-in_err-write_at-clause-appends : goal.returns-in_err-write_at-clause-appends
-returns-in_err-write_at-clause-appends g c = λ bodies holds.
+pub returns-in_err-next-clause-appends : goal.returns-in_err-next-clause-appends
+returns-in_err-next-clause-appends g c = λ bodies holds.
+    let old = g.D.Disk.told c.args.disk.now in
     let p = err_from_is_err_and c.from_residual.result c.from_residual.ensures.1 in
-    appends_in_part (g.D.Disk.told c.args.disk.now) bodies c.args.body.now c.from_residual.result p.0 (g.D.Disk.told c.write_at.new.self) p.1
-    (body_written (g.D.Disk.told c.args.disk.now) bodies c.args.end c.args.body.now c.bytes-bytes.result.now c.bytes-bytes.ensures.bytes c.bytes-bytes.ensures.short holds
-    (Err c.in_err-write_at.field-0.0) (g.D.Disk.told c.write_at.new.self) c.in_err-write_at.ensures.told)
+    let more = c.in_err-next.ensures.stages bodies [] (begins old bodies c.args.end holds) in
+    appends_in_part old bodies c.args.body.now c.from_residual.result p.0 (g.D.Disk.told c.stage.new.disk) p.1
+    (staged_first old bodies c.args.body.now c.args.end (Err c.in_err-next.field-0.0) (g.D.Disk.told c.stage.new.disk) more)
 
-pub returns-in_err-sync-clause-appends : goal.returns-in_err-sync-clause-appends
-returns-in_err-sync-clause-appends g c = λ bodies holds.
-    let p = err_from_is_err_and c.from_residual-in_err-sync.result c.from_residual-in_err-sync.ensures.1 in
-    appends_in_part (g.D.Disk.told c.args.disk.now) bodies c.args.body.now c.from_residual-in_err-sync.result p.0 (g.D.Disk.told c.sync.new.self) p.1
-    (body_synced (g.D.Disk.told c.args.disk.now) bodies c.args.end c.args.body.now c.bytes-bytes.result.now c.bytes-bytes.ensures.bytes c.bytes-bytes.ensures.short holds
-    c.in_ok-write_at.field-0 (g.D.Disk.told c.write_at.new.self) c.in_ok-write_at.ensures.told
-    (Err c.in_err-sync.field-0.0) (g.D.Disk.told c.sync.new.self) c.in_err-sync.ensures.told)
-
-pub returns-in_err-write_at-2-clause-appends : goal.returns-in_err-write_at-2-clause-appends
-returns-in_err-write_at-2-clause-appends g c = λ bodies holds.
-    let p = err_from_is_err_and c.from_residual-in_err-write_at-2.result c.from_residual-in_err-write_at-2.ensures.1 in
-    appends_in_part (g.D.Disk.told c.args.disk.now) bodies c.args.body.now c.from_residual-in_err-write_at-2.result p.0 (g.D.Disk.told c.write_at-2.new.self) p.1
-    (gate_written (g.D.Disk.told c.args.disk.now) bodies c.args.end c.args.body.now c.bytes-bytes.result.now c.bytes-bytes.ensures.bytes c.bytes-bytes.ensures.short holds
-    c.in_ok-write_at.field-0 (g.D.Disk.told c.write_at.new.self) c.in_ok-write_at.ensures.told
-    c.in_ok-sync.field-0 (g.D.Disk.told c.sync.new.self) c.in_ok-sync.ensures.told
-    (Err c.in_err-write_at-2.field-0.0) (g.D.Disk.told c.write_at-2.new.self) c.in_err-write_at-2.ensures.told)
-
-pub returns-in_err-sync-2-clause-appends : goal.returns-in_err-sync-2-clause-appends
-returns-in_err-sync-2-clause-appends g c = λ bodies holds.
-    let p = err_from_is_err_and c.from_residual-in_err-sync-2.result c.from_residual-in_err-sync-2.ensures.1 in
-    appends_in_part (g.D.Disk.told c.args.disk.now) bodies c.args.body.now c.from_residual-in_err-sync-2.result p.0 (g.D.Disk.told c.sync-2.new.self) p.1
-    (gate_synced (g.D.Disk.told c.args.disk.now) bodies c.args.end c.args.body.now c.bytes-bytes.result.now c.bytes-bytes.ensures.bytes c.bytes-bytes.ensures.short holds
-    c.in_ok-write_at.field-0 (g.D.Disk.told c.write_at.new.self) c.in_ok-write_at.ensures.told
-    c.in_ok-sync.field-0 (g.D.Disk.told c.sync.new.self) c.in_ok-sync.ensures.told
-    c.in_ok-write_at-2.field-0 (g.D.Disk.told c.write_at-2.new.self) c.in_ok-write_at-2.ensures.told
-    (Err c.in_err-sync-2.field-0.0) (g.D.Disk.told c.sync-2.new.self) c.in_err-sync-2.ensures.told)
+pub returns-in_err-seal-clause-appends : goal.returns-in_err-seal-clause-appends
+returns-in_err-seal-clause-appends g c = λ bodies holds.
+    let old = g.D.Disk.told c.args.disk.now in
+    let staged = g.D.Disk.told c.stage.new.disk in
+    let p = err_from_is_err_and c.from_residual-in_err-seal.result c.from_residual-in_err-seal.ensures.1 in
+    let more = c.in_ok-next.ensures.stages bodies [] (begins old bodies c.args.end holds) in
+    let seals = c.in_err-seal.ensures.seals bodies (c.args.body.now ∷ []) (waits_now old bodies c.args.body.now c.args.end c.in_ok-next.next staged more) in
+    appends_in_part old bodies c.args.body.now c.from_residual-in_err-seal.result p.0 (g.D.Disk.told c.seal.new.disk) p.1
+    (seal_since old bodies c.args.body.now c.args.end c.in_ok-next.next staged more (Err c.in_err-seal.field-0.0) (g.D.Disk.told c.seal.new.disk) seals)
 
 pub returns-clause-appends : goal.returns-clause-appends
 returns-clause-appends g c = λ bodies holds.
-    appended (g.D.Disk.told c.args.disk.now) bodies c.args.end c.args.body.now c.bytes-bytes.result.now c.bytes-bytes.ensures.bytes c.bytes-bytes.ensures.short holds
-    c.in_ok-write_at.field-0 (g.D.Disk.told c.write_at.new.self) c.in_ok-write_at.ensures.told
-    c.in_ok-sync.field-0 (g.D.Disk.told c.sync.new.self) c.in_ok-sync.ensures.told
-    c.in_ok-write_at-2.field-0 (g.D.Disk.told c.write_at-2.new.self) c.in_ok-write_at-2.ensures.told
-    c.in_ok-sync-2.field-0 (g.D.Disk.told c.sync-2.new.self) c.in_ok-sync-2.ensures.told
+    let old = g.D.Disk.told c.args.disk.now in
+    let staged = g.D.Disk.told c.stage.new.disk in
+    let more = c.in_ok-next.ensures.stages bodies [] (begins old bodies c.args.end holds) in
+    let seals = c.in_ok-seal.ensures.seals bodies (c.args.body.now ∷ []) (waits_now old bodies c.args.body.now c.args.end c.in_ok-next.next staged more) in
+    appended old bodies c.args.body.now c.args.end c.in_ok-next.next staged more c.in_ok-seal.field-0 (g.D.Disk.told c.seal.new.disk) seals
