@@ -134,3 +134,9 @@ abbrev pub Syncs : Option DiskLife → Result (Unit {0}) Failed → Option DiskL
 Syncs None result new = new ≡ None
 Syncs (Some life) (Ok x) new = new ≡ Some (goes_on life (synced_state life.now.seen))
 Syncs (Some life) (Err e) new = new ≡ Some life
+
+-- ---- two disks
+
+-- the count of the faults of both, which stands still at the greatest that a count may be
+abbrev pub both_faults : ℕ → ℕ → ℕ
+both_faults disk spare = min (disk + spare) 18446744073709551615
