@@ -67,7 +67,7 @@ fn put_pages(
     end: u64,
     out: &mut Out,
 ) -> Result<(), NoMemory>
-    requires within { end ≤ max stable.now.size (upper_of dirty.entry).size }
+    requires within { end ≤ max stable.now.size (upper_of dirty).size }
     requires bounded { end ≤ MAX_FILE }
     ensures ok { OnOk result (out.new ≡ out.old ++ part_of stable.now (upper_of dirty.entry) from end) }
     ensures err { OnErr result (take (length out.old) out.new ≡ out.old) }
@@ -119,7 +119,7 @@ impl<'f> FilePart<'f> {
         end: u64,
     ) -> FilePart<'f>
         requires order { from ≤ end }
-        requires within { end ≤ max stable.now.size (upper_of dirty.entry).size }
+        requires within { end ≤ max stable.now.size (upper_of dirty).size }
         requires bounded { end ≤ MAX_FILE }
         ensures { result ≡ part_of stable.entry.now (upper_of dirty.entry) from end }
     {

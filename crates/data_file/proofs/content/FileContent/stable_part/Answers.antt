@@ -9,7 +9,7 @@ pub returns : goal.returns
 returns c =
     let f = c.self.inside in
     let size = shown_size f.stable no_pages in
-    let one = c.length.ensures.exact in
+    let one = c.length-size.ensures.exact in
     let count = c.from.ensures in
     let from = c.min-from.ensures in
     let end = c.min-end.ensures in
