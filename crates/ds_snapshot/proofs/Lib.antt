@@ -1,0 +1,4 @@
+pub mod Chunks
+pub mod Playing
+pub mod Left
+pub mod Sizing
