@@ -1,7 +1,7 @@
 -- Logs worked out byte by byte.
 use Rattle.std.proofs.Common.{◌≡◌, ℕ, List, [], ◌∷◌, map, Some, None, Ok, Err, refl}
 use Rattle.std.specs.Option.{option_map}
-use Rattle.ff_xdr.specs.Form.{word, long, padded, spelling}
+use Rattle.ff_xdr.specs.Form.{word, long, padded, pad_len, spelling}
 use Rattle.ff_xdr.specs.Reading.{number_at}
 use Rattle.rpc_record.specs.Calls.{word_of}
 use Rattle.gate_log.specs.Logs.{log_within}
@@ -123,7 +123,7 @@ file_bytes =
     ∷ 0 ∷ 0 ∷ 0 ∷ 1 ∷ 0 ∷ 0 ∷ 0 ∷ 1 ∷ 0 ∷ 0 ∷ 0 ∷ 1 ∷ 0 ∷ 0 ∷ 0 ∷ 2 ∷ 0 ∷ 0 ∷ 0 ∷ 1 ∷ 0 ∷ 0 ∷ 0 ∷ 3 ∷ []
 
 pub file_spelled : spelling body_form (body_value (HoldsFile (109 ∷ 49 ∷ []) 2 7 8 416 three_times)) ≡ file_bytes
-unfolding word long padded
+unfolding word long padded pad_len
 file_spelled = refl
 
 -- it leaves the root as it is, and its fileid is the next; a name in use, one of no bytes, another fileid and a ctime to come are refused
