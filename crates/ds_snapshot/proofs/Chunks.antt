@@ -1,9 +1,8 @@
 -- Bytes as chunks.
-use Rattle.std.proofs.Common.{◌≡◌, ℕ, zero, suc, ◌+◌, ◌*◌, ◌-◌, ◌<◌, ◌≤◌, List, [], ◌∷◌, ◌++◌, length, take, drop, map, min, Some, refl, sym, ap, subst, ◌∙◌, arith, inl, inr}
+use Rattle.std.proofs.Common.{◌≡◌, ℕ, zero, suc, ◌+◌, ◌*◌, ◌-◌, ◌<◌, ◌≤◌, List, [], ◌∷◌, ◌++◌, length, take, drop, min, Some, refl, sym, ap, subst, ◌∙◌, ◌⊎◌, arith, inl, inr}
 use Rattle.std.specs.Prelude.{slice_get, option_map}
 use Rattle.std.proofs.lemmas.Bool.{cases_lt}
-use Rattle.std.proofs.lemmas.Grind.{places}
-use Rattle.std.proofs.lemmas.List.{append-nil, length_push, length-map, length-take-le, take_all, drop_more, drop_all}
+use Rattle.std.proofs.lemmas.List.{append-nil, length_push, length-map, length-take, length-take-le, length-drop, take_all, drop_more, drop_all}
 use Rattle.std.proofs.lemmas.Option.{slice_get-map, slice_get_within, get_or_from_slice_get}
 use Rattle.std.proofs.Math.Seq.{take-add}
 use Rattle.cluster_model.specs.Content.{Pending, overlay}
@@ -19,12 +18,18 @@ overlay_end old [] = sym (append-nil old)
 overlay_end old (b ∷ new) =
     let none : length old - length old ≡ 0 = omega arith in
     let past : drop (length old + length (b ∷ new)) old ≡ [] = drop_all (length old + length (b ∷ new)) old (omega arith) in
-    rw (take_all (length old) old (omega arith), none, past, append-nil (b ∷ new)) refl
+    rw (take_all (length old) old (omega arith), none, past) (append-nil (old ++ [] ++ b ∷ new) ∙ ap (λ (xs : List ℕ). xs ++ b ∷ new) (append-nil old))
 
 pub joined_at : (bytes : List ℕ) (m c : ℕ) → m ≤ length bytes → overlay (take m bytes) m (take c (drop m bytes)) ≡ take (m + c) bytes
 joined_at bytes m c le =
     subst (λ (k : ℕ). overlay (take m bytes) k (take c (drop m bytes)) ≡ take m bytes ++ take c (drop m bytes)) (length-take-le m bytes le) (overlay_end (take m bytes) (take c (drop m bytes)))
     ∙ sym (take-add m c bytes)
+
+pub cut_length : (bytes : List ℕ) (m c : ℕ) → length (take c (drop m bytes)) ≡ min c (length bytes - m)
+cut_length bytes m c = length-take c (drop m bytes) ∙ ap (min c) (length-drop m bytes)
+
+pub chunk_length : (bytes : List ℕ) (k : ℕ) → length (chunk_at bytes k).bytes ≡ min chunk_size (length bytes - k * chunk_size)
+chunk_length bytes k = cut_length bytes (k * chunk_size) chunk_size
 
 -- ---- the element at a place
 
@@ -53,11 +58,11 @@ chunks_length bytes (suc n) =
 
 pub chunk_there : (bytes : List ℕ) (n k : ℕ) → k < n → slice_get (first_chunks bytes n) k ≡ Some (chunk_at bytes k)
 chunk_there bytes zero k less = absurd (omega (arith, less))
-chunk_there bytes (suc n) k less = ap (λ (ws : List Pending). slice_get ws k) (one_more bytes n) ∙ by_place (cases_lt k n)
+chunk_there bytes (suc n) k less = ap (λ (ws : List Pending). slice_get ws k) (one_more bytes n) ∙ by_place (chunk_there bytes n k) (cases_lt k n)
   where
-    by_place : (k < n) ⊎ (n ≤ k) → slice_get (first_chunks bytes n ++ chunk_at bytes n ∷ []) k ≡ Some (chunk_at bytes k)
-    by_place (inl before) = slice_get-push (first_chunks bytes n) k (chunk_at bytes k) (chunk_at bytes n) (chunk_there bytes n k before)
-    by_place (inr here) =
+    by_place : (k < n → slice_get (first_chunks bytes n) k ≡ Some (chunk_at bytes k)) → (k < n) ⊎ (n ≤ k) → slice_get (first_chunks bytes n ++ chunk_at bytes n ∷ []) k ≡ Some (chunk_at bytes k)
+    by_place earlier (inl before) = slice_get-push (first_chunks bytes n) k (chunk_at bytes k) (chunk_at bytes n) (earlier before)
+    by_place earlier (inr here) =
         let same : n ≡ k = omega (arith, here, less) in
         let place : length (first_chunks bytes n) ≡ k = chunks_length bytes n ∙ same in
         ap (slice_get (first_chunks bytes n ++ chunk_at bytes n ∷ [])) (sym place) ∙ at_seam (first_chunks bytes n) (chunk_at bytes n) [] ∙ ap (λ (i : ℕ). Some (chunk_at bytes i)) same

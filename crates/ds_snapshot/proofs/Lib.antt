@@ -2,3 +2,4 @@ pub mod Chunks
 pub mod Playing
 pub mod Left
 pub mod Sizing
+pub mod Written

@@ -1,25 +1,24 @@
 -- The bodies of a snapshot, from nothing, make what lasts of the server.
-use Rattle.std.proofs.Common.{◌≡◌, ℕ, zero, suc, ◌+◌, ◌-◌, ◌*◌, ◌<◌, ◌≤◌, true, false, List, [], ◌∷◌, ◌++◌, length, map, take, drop, set, min, Option, Some, None, refl, sym, ap, subst, ◌∙◌, arith}
+use Rattle.std.proofs.Common.{◌≡◌, ℕ, zero, suc, ◌+◌, ◌-◌, ◌*◌, ◌<◌, ◌≤◌, true, List, [], ◌∷◌, ◌++◌, length, map, take, drop, set, min, Option, Some, refl, sym, ap, ◌∙◌, arith}
 use Rattle.std.specs.Prelude.{⊤, IsTrue, slice_get, nat_lt, nat_le, nat_eq}
-use Rattle.std.specs.List.{list_all}
 use Rattle.std.proofs.lemmas.Bool.{le-leb, lt-ltb, eq-eqb}
 use Rattle.std.proofs.lemmas.List.{append-nil, append_assoc, length_push, length-take, length-drop, map-append, take_all}
 use Rattle.std.proofs.lemmas.List.Sums.{sum_by-cons}
 use Rattle.std.proofs.Math.Seq.{set-append_seam}
 use Rattle.cluster_model.specs.declared.tick.Tick.{Tick}
 use Rattle.cluster_model.specs.declared.tick.Times.{Times}
-use Rattle.cluster_model.specs.Content.{Pending, overlay, overlay_all}
-use Rattle.cluster_model.specs.File.{StoredFile, shown, restarted}
+use Rattle.cluster_model.specs.Content.{Pending}
+use Rattle.cluster_model.specs.File.{StoredFile, shown}
 use Rattle.cluster_model.specs.Server.{ServerState, total_size, max_file, max_total}
 use Rattle.ds_procedures.specs.declared.setattr.TheConstants.{MODE_BITS}
-use Rattle.ds_log.specs.Bodies.{Logged, Boots, HoldsBytes, HoldsFile, HoldsRoot}
-use Rattle.ds_log.specs.Durable.{start_of, durable, unbooted, is_good_name, has_begun, with_stored, holding, ends_in_file, applied, then_all, all_applied}
+use Rattle.ds_log.specs.Bodies.{Logged, Boots, HoldsBytes, HoldsRoot}
+use Rattle.ds_log.specs.Durable.{start_of, durable, unbooted, is_good_name, holding, applied, then_all, all_applied}
 use Rattle.ds_log.specs.Steady.{IsSteady, IsSteadyFile, AreGoodNames}
 use Rattle.ds_log.proofs.Rooms.{at_some}
 use Rattle.ds_log.proofs.Plays.{all_append}
 use Rattle.ds_changes.proofs.Covering.{all_longer}
 use Rattle.ds_changes.proofs.Sizes.{total_left, total_push}
-use Rattle.ds_snapshot.specs.Snapshots.{chunk_size, chunk_at, first_chunks, chunk_count, chunks_of, chunk_bodies, file_body, file_bodies, files_bodies, snapshot_of}
+use Rattle.ds_snapshot.specs.Snapshots.{chunk_size, chunk_at, first_chunks, chunk_count, chunk_bodies, file_body, file_bodies, files_bodies, snapshot_of}
 use Rattle.ds_snapshot.proofs.Chunks.{joined_at, at_seam, none_first, one_more, holds}
 use Rattle.ds_snapshot.proofs.Left.{left}
 

@@ -1,24 +1,22 @@
 -- How many bytes the bodies of a snapshot have.
-use Rattle.std.proofs.Common.{◌≡◌, ℕ, zero, suc, ◌+◌, ◌*◌, ◌-◌, ◌/◌, ◌<◌, ◌≤◌, List, [], ◌∷◌, ◌++◌, length, take, drop, map, min, Option, Some, None, refl, sym, ap, ◌∙◌, arith}
+use Rattle.std.proofs.Common.{◌≡◌, ℕ, zero, suc, ◌+◌, ◌*◌, ◌-◌, ◌^◌, ◌/◌, ◌<◌, ◌≤◌, List, [], ◌∷◌, ◌++◌, length, map, min, Some, None, ap, ◌∙◌, arith}
 use Rattle.std.specs.Prelude.{slice_get}
-use Rattle.std.specs.List.{flat_map}
-use Rattle.std.proofs.lemmas.List.{append-nil, length-append, length-take, length-drop, map-append}
+use Rattle.std.proofs.lemmas.List.{length-append, map-append}
 use Rattle.ff_xdr.specs.Form.{word, long, padded, pad_len, spelling}
 use Rattle.ff_xdr.proofs.Fields.{length-word}
 use Rattle.ff_xdr.proofs.CutShort.{length-long}
 use Rattle.ff_xdr.proofs.StoppedText.{length-padded}
-use Rattle.gate_log.specs.Logs.{log_size}
 use Rattle.cluster_model.specs.declared.tick.Tick.{Tick}
 use Rattle.cluster_model.specs.declared.tick.Times.{Times}
 use Rattle.cluster_model.specs.Content.{Pending}
 use Rattle.cluster_model.specs.File.{StoredFile}
 use Rattle.cluster_model.specs.Server.{ServerState}
-use Rattle.ds_log.specs.Bodies.{Logged, Boots, HoldsBytes, HoldsFile, HoldsRoot, times_form, times_value, tick_form, tick_value, range_form, range_value}
+use Rattle.ds_log.specs.Bodies.{Logged, Boots, HoldsBytes, HoldsFile, HoldsRoot, times_form, times_value, tick_form, tick_value}
 use Rattle.ds_log.specs.Durable.{durable}
-use Rattle.ds_snapshot.specs.Snapshots.{chunk_size, chunk_at, first_chunks, chunk_count, chunks_of, chunk_bodies, file_body, file_bodies, files_bodies, snapshot_of}
-use Rattle.ds_snapshot.specs.NextBodies.{files_from, chunks_from}
+use Rattle.ds_snapshot.specs.Snapshots.{chunk_size, chunk_at, first_chunks, chunk_count, chunk_bodies, file_bodies}
+use Rattle.ds_snapshot.specs.NextBodies.{files_from}
 use Rattle.ds_snapshot.specs.Sizes.{body_text, bodies_size, snapshot_size, CountsFile}
-use Rattle.ds_snapshot.proofs.Chunks.{none_first, one_more, holds}
+use Rattle.ds_snapshot.proofs.Chunks.{chunk_length, none_first, one_more, holds}
 use Rattle.ds_snapshot.proofs.Left.{left, file_there}
 
 -- ---- one body
@@ -36,10 +34,10 @@ times_size t =
 opaque_size : (bytes : List ℕ) → length (word (length bytes) ++ padded bytes) ≡ 4 + length bytes + pad_len (length bytes)
 opaque_size bytes = omega (arith, length-append (word (length bytes)) (padded bytes), length-word (length bytes), length-padded bytes)
 
-boot_size : (boot : ℕ) → length (body_text (Boots boot)) ≡ 8
+pub boot_size : (boot : ℕ) → length (body_text (Boots boot)) ≡ 8
 boot_size boot = omega (arith, length-append (word 1) (word boot), length-word 1, length-word boot)
 
-root_size : (times : Times) → length (body_text (HoldsRoot times)) ≡ 28
+pub root_size : (times : Times) → length (body_text (HoldsRoot times)) ≡ 28
 root_size times = omega (arith, length-append (word 7) (spelling times_form (times_value times)), length-word 7, times_size times)
 
 pub file_body_size : (fileid : ℕ) (name : List ℕ) (owner group mode : ℕ) (times : Times) → length (body_text (HoldsFile name fileid owner group mode times)) ≡ 52 + (length name + pad_len (length name))
@@ -90,35 +88,57 @@ chunk_body_size fileid mtime ctime w =
 -- ---- bodies together
 
 sizes_append : (xs ys : List Logged) → bodies_size (xs ++ ys) ≡ bodies_size xs + bodies_size ys
-sizes_append [] ys = refl
+sizes_append [] ys = omega arith
 sizes_append (x ∷ xs) ys = omega (arith, sizes_append xs ys)
 
 pad_whole : (k : ℕ) → pad_len (k * 4) ≡ 0
 unfolding pad_len
 pad_whole k = omega arith
 
--- full chunks have no zeros behind them
+pub pad_up : (n : ℕ) → (n + 3) / 4 * 4 ≡ n + pad_len n
+unfolding pad_len
+pad_up n = omega arith
+
 pad_chunks : (n rest : ℕ) → pad_len (n * chunk_size + rest) ≡ pad_len rest
 unfolding pad_len
 pad_chunks n rest = omega arith
 
+push_size : (front : List Logged) (fileid : ℕ) (f : StoredFile) (w : Pending) → bodies_size (front ++ holds fileid f w ∷ []) ≡ bodies_size front + (49 + (length w.bytes + pad_len (length w.bytes)))
+push_size front fileid f w = omega (arith, sizes_append front (holds fileid f w ∷ []), chunk_body_size fileid f.times.mtime f.times.ctime w)
+
+-- full chunks have no zeros behind them
+full_size : (n size : ℕ) → n * chunk_size ≤ size → n * 49 + (min (n * chunk_size) size + pad_len (min (n * chunk_size) size)) ≡ n * 49 + n * chunk_size
+full_size n size start =
+    let full : min (n * chunk_size) size ≡ n * chunk_size + 0 = omega (arith, start) in
+    let none : pad_len (min (n * chunk_size) size) ≡ 0 = ap pad_len full ∙ pad_chunks n 0 ∙ pad_whole 0 in
+    omega (arith, full, none)
+
+last_size : (n size last front : ℕ) → n * chunk_size ≤ size → last ≡ min chunk_size (size - n * chunk_size) → front ≡ n * 49 + n * chunk_size
+    → front + (49 + (last + pad_len last)) ≡ suc n * 49 + (min (suc n * chunk_size) size + pad_len (min (suc n * chunk_size) size))
+last_size n size last front start is before =
+    let whole : min (suc n * chunk_size) size ≡ n * chunk_size + last = omega (arith, start, is) in
+    let padding : pad_len (min (suc n * chunk_size) size) ≡ pad_len last = ap pad_len whole ∙ pad_chunks n last in
+    omega (arith, before, whole, padding)
+
 module _ (fileid : ℕ) (f : StoredFile) where
   first_size : (n : ℕ) → ((k : ℕ) → k < n → k * chunk_size ≤ length f.content.stable)
       → bodies_size (map (holds fileid f) (first_chunks f.content.stable n)) ≡ n * 49 + (min (n * chunk_size) (length f.content.stable) + pad_len (min (n * chunk_size) (length f.content.stable)))
-  first_size zero within = ap (λ (ws : List Pending). bodies_size (map (holds fileid f) ws)) (none_first f.content.stable) ∙ sym (pad_whole 0)
+  first_size zero within =
+      let none : bodies_size (map (holds fileid f) (first_chunks f.content.stable zero)) ≡ 0 = ap (λ (ws : List Pending). bodies_size (map (holds fileid f) ws)) (none_first f.content.stable) in
+      let low : min (zero * chunk_size) (length f.content.stable) ≡ 0 = omega arith in
+      let padding : pad_len (min (zero * chunk_size) (length f.content.stable)) ≡ 0 = ap pad_len low ∙ pad_whole 0 in
+      omega (arith, none, low, padding)
   first_size (suc n) within =
       let bytes = f.content.stable in
-      let full : min (n * chunk_size) (length bytes) ≡ n * chunk_size = omega (arith, within n (omega arith)) in
+      let size = length bytes in
       let last = chunk_at bytes n in
       let front : List Logged = map (holds fileid f) (first_chunks bytes n) in
-      let all : bodies_size (map (holds fileid f) (first_chunks bytes (suc n))) ≡ bodies_size (front ++ holds fileid f last ∷ []) =
-      ap (λ (ws : List Pending). bodies_size (map (holds fileid f) ws)) (one_more bytes n) ∙ ap bodies_size (map-append (holds fileid f) (first_chunks bytes n) (last ∷ [])) in
-      let before : bodies_size front ≡ n * 49 + (n * chunk_size + pad_len (n * chunk_size)) = first_size n (λ k less. within k (omega (arith, less))) ∙ ap (λ (m : ℕ). n * 49 + (m + pad_len m)) full in
-      let none : pad_len (n * chunk_size) ≡ 0 = ap pad_len (omega arith) ∙ pad_chunks n 0 ∙ pad_whole 0 in
-      let size : length last.bytes ≡ min chunk_size (length bytes - n * chunk_size) = length-take chunk_size (drop (n * chunk_size) bytes) ∙ ap (min chunk_size) (length-drop (n * chunk_size) bytes) in
-      let whole : min (suc n * chunk_size) (length bytes) ≡ n * chunk_size + length last.bytes = omega (arith, size, within n (omega arith)) in
-      let padding : pad_len (min (suc n * chunk_size) (length bytes)) ≡ pad_len (length last.bytes) = ap pad_len whole ∙ pad_chunks n (length last.bytes) in
-      omega (arith, all, sizes_append front (holds fileid f last ∷ []), before, none, chunk_body_size fileid f.times.mtime f.times.ctime last, whole, padding)
+      let start : n * chunk_size ≤ size = within n (omega arith) in
+      let before : bodies_size front ≡ n * 49 + n * chunk_size = first_size n (λ k less. within k (omega (arith, less))) ∙ full_size n size start in
+      ap (λ (ws : List Pending). bodies_size (map (holds fileid f) ws)) (one_more bytes n)
+      ∙ ap bodies_size (map-append (holds fileid f) (first_chunks bytes n) (last ∷ []))
+      ∙ push_size front fileid f last
+      ∙ last_size n size (length last.bytes) (bodies_size front) start (chunk_length bytes n) before
 
   pub chunks_size : bodies_size (chunk_bodies fileid f) ≡ chunk_count (length f.content.stable) * 49 + (length f.content.stable + pad_len (length f.content.stable))
   chunks_size =
@@ -138,3 +158,8 @@ counts_file s index size name f named there is =
 
 pub head_size : (s : ServerState) → snapshot_size (durable s) ≡ 46 + bodies_size (files_from (durable s) 0)
 head_size s = omega (arith, boot_size s.clock.boot, root_size s.root)
+
+pub total_is : (s : ServerState) (index size : ℕ) → CountsFile (durable s) index None → size ≤ 2 ^ 64 - 1 → min (size + bodies_size (files_from (durable s) index)) (2 ^ 64 - 1) ≡ min (46 + bodies_size (files_from (durable s) 0)) (2 ^ 64 - 1) → size ≡ min (snapshot_size (durable s)) (2 ^ 64 - 1)
+total_is s index size none most same =
+    let last : bodies_size (files_from (durable s) index) ≡ 0 = ap bodies_size none in
+    omega (arith, last, most, same, head_size s)

@@ -1,13 +1,16 @@
 //! Bodies as bytes.
 
-ghost use Rattle.std.specs.Prelude.{◌≡◌, ◌+◌, ◌<◌, ◌≤◌, ◌^◌, [], ◌∷◌, length, drop, IfOk, OnOk, Some};
+ghost use Rattle.std.specs.Prelude.{◌≡◌, ◌+◌, ◌<◌, ◌≤◌, ◌^◌, [], ◌∷◌, length, drop, replicate, IfOk, Some};
 ghost use Rattle.ff_xdr.specs.Form.{Fits, spelling};
 ghost use Rattle.cluster_model.specs.File.{restarted};
 ghost use Rattle.cluster_model.specs.Server.{max_file};
 ghost use Rattle.ds_log.specs.Bodies.{HoldsBytes, body_form, body_value, body_in};
 ghost use Rattle.ds_log.specs.PlainBodies.{plain_body};
+ghost use Rattle.ds_changes.specs.HeldRanges.{plain_held};
+ghost use Rattle.ds_changes.specs.Logging.{AreFewRanges, TimesFit};
 ghost use Rattle.ds_snapshot.specs.Snapshots.{chunk_at, chunk_count, file_body};
 
+use cluster_model::Times;
 use data_file::DataFile;
 use ds_changes::{HeldRange, put_held};
 use ds_log::LogBody;
@@ -27,7 +30,7 @@ const REST: usize = 64;
 /// Room for a body of so many bytes of a name or a file, behind the bytes that stand before it.
 fn begun(alloc: Global, count: usize) -> Result<Out, NoMemory>
     requires { count ≤ 1048576 }
-    ensures { IfOk result (λ out. (length out ≡ 5) × (drop 5 out ≡ [])) }
+    ensures { IfOk result (λ out. (out ≡ replicate 5 0) × (length out ≡ 5)) }
 {
     let mut out = Out::new(alloc);
     out.reserve(REST + count)?;
@@ -85,6 +88,23 @@ pub fn chunk_count(size: u64) -> u64
     (size + (CHUNK - 1)) / CHUNK
 }
 
+/// That bytes of a file are stable, and its mtime and ctime.
+fn range_held(
+    alloc: Global,
+    fileid: u64,
+    times: Times,
+    range: HeldRange<'_>,
+) -> Result<Gated, NoMemory>
+    requires few { AreFewRanges (plain_held range ∷ []) }
+    requires times { TimesFit times }
+    ensures { IfOk result (λ gated. body_in gated ≡ Some (HoldsBytes fileid times.mtime times.ctime (plain_held range.entry ∷ []))) }
+{
+    let mut out = begun(alloc, CHUNK as usize)?;
+    let ranges = [range];
+    put_held(fileid, times.mtime, times.ctime, &ranges, None, &mut out)?;
+    framed(alloc, out)
+}
+
 /// A chunk of a file's stable bytes.
 pub fn chunk_held(
     alloc: Global,
@@ -99,8 +119,5 @@ pub fn chunk_held(
     let times = file.stable_times();
     let at = chunk * CHUNK;
     let part = file.stable_part(at, CHUNK as u32);
-    let mut out = begun(alloc, CHUNK as usize)?;
-    let ranges = [HeldRange { at, part }];
-    put_held(fileid, times.mtime, times.ctime, &ranges, None, &mut out)?;
-    framed(alloc, out)
+    range_held(alloc, fileid, times, HeldRange { at, part })
 }

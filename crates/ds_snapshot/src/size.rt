@@ -1,6 +1,6 @@
 //! How many bytes a snapshot has in a log.
 
-ghost use Rattle.std.specs.Prelude.{◌≡◌, ◌+◌, ◌<◌, ◌≤◌, ◌^◌, ◌-◌, [], min, IfSome, OnOk, ℕ};
+ghost use Rattle.std.specs.Prelude.{◌≡◌, ◌+◌, ◌<◌, ◌≤◌, ◌^◌, ◌-◌, [], length, min, IfSome, ℕ};
 ghost use Rattle.ff_xdr.specs.Form.{pad_len};
 ghost use Rattle.cluster_model.specs.File.{restarted};
 ghost use Rattle.ds_log.specs.Durable.{durable};
@@ -22,9 +22,11 @@ const FILE: u64 = 57;
 const CHUNK_REST: u64 = 49;
 
 /// So many bytes, and zeros up to a multiple of four.
+#[tactic(auto, using(crate::proofs::Sizing::pad_up))]
 fn padded_size(count: u64) -> u64
     requires { count < 2 ^ 63 }
-    ensures { result ≡ count + pad_len count }
+    ensures exact { result ≡ count + pad_len count }
+    ensures bounded { result ≤ count + 3 }
 {
     (count + 3) / 4 * 4
 }
@@ -41,9 +43,14 @@ pub fn file_size(name: &[u8], file: &DataFile) -> u64
 fn size_at(server: &DataServer, index: usize) -> Option<u64>
     ensures counts { CountsFile (durable server.now) index result }
     ensures index { IfSome result (λ _. index + 2 < 2 ^ 64) }
+    ensures within { IfSome result (λ _. index < length server.now.files) }
 {
-    let file = file_at(server, index)?;
-    let name = server.name(index)?;
+    let Some(file) = file_at(server, index) else {
+        return None;
+    };
+    let Some(name) = server.name(index) else {
+        return None;
+    };
     Some(file_size(name, file))
 }
 

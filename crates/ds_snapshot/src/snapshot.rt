@@ -112,6 +112,8 @@ impl Model for Snapshot {
     ghost Value = { NextBody };
 
     ghost view = { λ snapshot. snapshot.next };
+
+    ghost inverse = { λ next. record { next = next } };
 }
 
 impl Snapshot {
