@@ -1,27 +1,30 @@
 -- A steady server stays one.
 use Rattle.std.proofs.Common.{◌≡◌, ℕ, zero, suc, ◌⊎◌, ◌+◌, ◌-◌, ◌<◌, ◌≤◌, Bool, true, false, List, [], ◌∷◌, ◌++◌, length, set, max, Option, Some, None, refl, sym, ap, subst, ◌∙◌, arith, inl, inr}
-use Rattle.std.specs.Prelude.{slice_get, unwrap_or}
-use Rattle.std.proofs.lemmas.Bool.{cases_eq}
+use Rattle.std.specs.Prelude.{slice_get, unwrap_or, IsTrue, nat_lt, nat_le}
+use Rattle.std.proofs.lemmas.Bool.{cases_eq, lt-ltb, le-leb}
 use Rattle.std.proofs.lemmas.List.{length-set, length-append}
 use Rattle.std.proofs.lemmas.Option.{same_Some}
 use Rattle.cluster_model.specs.declared.tick.Tick.{Tick}
 use Rattle.cluster_model.specs.Ticks.{next_tick}
 use Rattle.cluster_model.specs.Content.{overlay}
 use Rattle.cluster_model.specs.File.{StoredFile, FileOp, Writes, Commits, Sets, Restarts, shown, new_file, file_after, clock_after, written}
-use Rattle.cluster_model.specs.Server.{ServerState, Effect, NoEffect, OnFile, NewFile, on_file, server_after, total_size, max_file, max_total}
+use Rattle.cluster_model.specs.Server.{ServerState, Effect, NoEffect, OnFile, NewFile, on_file, server_after, total_size, max_file, max_total, index_of}
 use Rattle.cluster_model.proofs.Elements.{slice_get-set_same, slice_get-set_other, Pushed, Old, New, pushed}
 use Rattle.cluster_model.proofs.Files.{shown-written}
 use Rattle.cluster_model.proofs.Placing.{length-overlay, length-overlay-le}
+use Rattle.ds_procedures.specs.declared.lookup.TheConstants.{MAX_NAME}
 use Rattle.ds_procedures.specs.declared.setattr.TheConstants.{MODE_BITS}
 use Rattle.ds_procedures.specs.CodePlans.{HasRoom, HasRoomFor}
 use Rattle.ds_procedures.proofs.Places.{size_le_total}
-use Rattle.ds_files.specs.Decisions.{CanDo, superblock_of, IsMode, IsWellMadeOp}
+use Rattle.ds_files.specs.Decisions.{CanDo, superblock_of, IsMakeable, IsMode, IsWellMadeOp}
+use Rattle.ds_log.specs.Durable.{is_good_name}
 use Rattle.ds_log.specs.Steady.{IsSteady, IsSteadyFile}
+use Rattle.ds_log.proofs.LastingLemmas.{good_push}
 use Rattle.ds_changes.proofs.Sizes.{total_set, total_push}
 
 -- a file is steady at each later tick of the boot
 later : (clock next : Tick) (f : StoredFile) → next.boot ≡ clock.boot → IsSteadyFile clock f → IsSteadyFile next f
-later clock next f same k = record { atime = k.atime; settled = k.settled; mode = k.mode; ctime = omega (arith, same, k.ctime); size = k.size }
+later clock next f same k = record { atime = k.atime; settled = k.settled; mode = k.mode; ctime = omega (arith, same, k.ctime); stable_ctime = omega (arith, same, k.stable_ctime); size = k.size }
 
 -- no effect but a restart begins a boot
 pub same_boot : (clock : Tick) (op : FileOp) (s : ServerState) (f : StoredFile) → HasRoomFor (superblock_of s) f op → (clock_after clock op).boot ≡ clock.boot
@@ -53,18 +56,20 @@ file_keeps s f (Writes at false (b ∷ bytes)) k room made = record {
   settled = λ none. absurd (not_empty f.content.pending (record { at = at; bytes = b ∷ bytes }) none);
   mode = k.mode;
   ctime = omega arith;
+  stable_ctime = k.stable_ctime;
   size = written_size s f (next_tick s.clock) at false b bytes k.size room;
 }
-file_keeps s f (Writes at true []) k room made = record { atime = refl; settled = λ none. refl; mode = k.mode; ctime = k.ctime; size = k.size }
+file_keeps s f (Writes at true []) k room made = record { atime = refl; settled = λ none. refl; mode = k.mode; ctime = k.ctime; stable_ctime = k.ctime; size = k.size }
 file_keeps s f (Writes at true (b ∷ bytes)) k room made = record {
   atime = refl;
   settled = λ none. refl;
   mode = k.mode;
   ctime = omega arith;
+  stable_ctime = omega arith;
   size = written_size s f (next_tick s.clock) at true b bytes k.size room;
 }
-file_keeps s f Commits k room made = record { atime = refl; settled = λ none. refl; mode = k.mode; ctime = k.ctime; size = k.size }
-file_keeps s f (Sets changes) k room made = record { atime = refl; settled = λ none. refl; mode = mode_after changes.mode f.mode made k.mode; ctime = omega arith; size = k.size }
+file_keeps s f Commits k room made = record { atime = refl; settled = λ none. refl; mode = k.mode; ctime = k.ctime; stable_ctime = k.ctime; size = k.size }
+file_keeps s f (Sets changes) k room made = record { atime = refl; settled = λ none. refl; mode = mode_after changes.mode f.mode made k.mode; ctime = omega arith; stable_ctime = omega arith; size = k.size }
 file_keeps s f (Restarts pieces) k room made = absurd room
 
 -- ---- the files together
@@ -101,6 +106,8 @@ file_set : (s : ServerState) (index : ℕ) (f : StoredFile) (op : FileOp) → sl
 file_set s index f op there k room made = record {
   each = λ i g found. by_place i g found (cases_eq i index);
   named = k.named ∙ sym (length-set s.files index (file_after f s.clock op));
+  names = k.names;
+  root = omega (arith, k.root, same_boot s.clock op s f room);
   room = total_after s index f op there k.room room;
 }
   where
@@ -111,19 +118,28 @@ file_set s index f op there k room made = record {
     by_place i g found (inr other) =
         later s.clock (clock_after s.clock op) g (same_boot s.clock op s f room) (k.each i g (sym (slice_get-set_other s.files index i (file_after f s.clock op) other) ∙ found))
 
-file_push : (s : ServerState) (name : List ℕ) (owner group mode : ℕ) → IsSteady s → mode < MODE_BITS → IsSteady (server_after s (NewFile name owner group mode))
-file_push s name owner group mode k bits = record {
+-- a name that may be made is a good one
+good_name : (names : List (List ℕ)) (name : List ℕ) (mode : ℕ) → IsMakeable name mode → index_of names name ≡ None → IsTrue (is_good_name names name)
+good_name names name mode made absent =
+    let some : nat_lt 0 (length name) ≡ true = lt-ltb _ _ made.some in
+    let short : nat_le (length name) MAX_NAME ≡ true = le-leb _ _ made.short in
+    rw (some, short, absent) refl
+
+file_push : (s : ServerState) (name : List ℕ) (owner group mode : ℕ) → IsSteady s → IsMakeable name mode → index_of s.names name ≡ None → IsSteady (server_after s (NewFile name owner group mode))
+file_push s name owner group mode k made absent = record {
   each = λ i g found. by_place i g (pushed s.files (new_file owner group mode (next_tick s.clock)) i g found);
   named =
       let names = length-append s.names (name ∷ []) in
       let files = length-append s.files (new_file owner group mode (next_tick s.clock) ∷ []) in
       omega (arith, names, files, k.named);
+  names = good_push [] s.names name k.names (good_name s.names name mode made absent);
+  root = omega arith;
   room = let sum = total_push s.files (new_file owner group mode (next_tick s.clock)) in omega (arith, sum, k.room);
 }
   where
     by_place : (i : ℕ) (g : StoredFile) → Pushed s.files (new_file owner group mode (next_tick s.clock)) i g → IsSteadyFile (next_tick s.clock) g
     by_place i g (Old there) = later s.clock (next_tick s.clock) g refl (k.each i g there)
-    by_place i g (New at is) = subst (IsSteadyFile (next_tick s.clock)) (sym is) (record { atime = refl; settled = λ none. refl; mode = bits; ctime = omega arith; size = omega arith })
+    by_place i g (New at is) = subst (IsSteadyFile (next_tick s.clock)) (sym is) (record { atime = refl; settled = λ none. refl; mode = made.bits; ctime = omega arith; stable_ctime = omega arith; size = omega arith })
 
 -- what is done to the file at an index is done to one that is there
 pub at_index : (s : ServerState) (index : ℕ) → index < length s.files → (f : StoredFile) × (slice_get s.files index ≡ Some f)
@@ -140,7 +156,7 @@ at_index s index lt = by_get (slice_get s.files index) refl
 
 pub steady_after : (s : ServerState) (effect : Effect) → IsSteady s → CanDo s effect → IsSteady (server_after s effect)
 steady_after s NoEffect k can = k
-steady_after s (NewFile name owner group mode) k can = file_push s name owner group mode k can.made.bits
+steady_after s (NewFile name owner group mode) k can = file_push s name owner group mode k can.made can.ready.1
 steady_after s (OnFile index op) k can =
     let found = at_index s index can.ready.0 in
     subst (λ (o : Option StoredFile). IsSteady (on_file s index op o)) (sym found.1) (file_set s index found.0 op found.1 k (can.ready.1 found.0 found.1) can.made)

@@ -10,5 +10,6 @@ mod span;
 mod stable;
 mod steps;
 
+pub use held::{HeldRange, put_held};
 pub use laws::changes_law;
 pub use steps::log_body;

@@ -1,6 +1,6 @@
 //! A data server.
 
-ghost use Rattle.std.specs.Prelude.{◌≡◌, ◌+◌, ◌<◌, ◌≤◌, ◌^◌, ◌↔◌, IfOk, OnOk, OnErr, Some, None, Err, length, option_copied};
+ghost use Rattle.std.specs.Prelude.{◌≡◌, ◌+◌, ◌<◌, ◌≤◌, ◌^◌, ◌↔◌, IfOk, OnOk, OnErr, Some, None, Err, length, option_copied, slice_get};
 ghost use Rattle.rpc_record.specs.Rpc.{plain_credential};
 ghost use Rattle.nfs3_wire.specs.Calls.{plain_call};
 ghost use Rattle.cluster_model.specs.Server.{new_server, preset_server, restart_of, server_after, max_ticks};
@@ -93,6 +93,20 @@ impl DataServer {
         ensures bounded { result + 2 < 2 ^ 64 }
     {
         self.files.len()
+    }
+
+    /// The name in the root of the data file at an index, where there is one.
+    pub fn name(&self, index: usize) -> Option<&[u8]>
+        ensures { option_copied result ≡ slice_get self.now.names index }
+    {
+        self.head.names.at(index)
+    }
+
+    /// The root's times.
+    pub fn root(&self) -> Times
+        ensures { result ≡ self.now.root }
+    {
+        self.head.root
     }
 
     /// The last tick that was given, of count 0 where none was in this boot.

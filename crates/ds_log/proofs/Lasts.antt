@@ -1,13 +1,13 @@
 -- What lasts of a server goes on lasting, body by body.
-use Rattle.std.proofs.Common.{◌≡◌, ℕ, ◌+◌, ◌-◌, Bool, true, false, ltb, cond, List, [], ◌∷◌, ◌++◌, length, map, set, zero, suc, Option, Some, None, Ok, refl, ap, subst}
+use Rattle.std.proofs.Common.{◌≡◌, ℕ, ◌+◌, ◌-◌, Bool, true, false, ltb, leb, cond, List, [], ◌∷◌, ◌++◌, length, map, set, zero, suc, Option, Some, None, Ok, refl, ap, subst}
 use Rattle.std.specs.Prelude.{⊤, ◌==◌, if◌then◌else◌, slice_get}
 use Rattle.std.proofs.lemmas.Option.{same_Some}
 use Rattle.std.proofs.lemmas.Bool.{cond_both}
 use Rattle.cluster_model.specs.declared.tick.Times.{Times}
 use Rattle.cluster_model.specs.File.{StoredFile, new_file, restarted}
 use Rattle.cluster_model.specs.Server.{ServerState, files_restarted, restart_of, max_boot}
-use Rattle.ds_log.specs.Bodies.{Logged, Boots, Creates, SetsAttributes, HoldsBytes, body_in}
-use Rattle.ds_log.specs.Durable.{start_of, durable, unbooted, created, attributed, holding, at_fileid, on_stored, with_stored, applied, applied_as, applied_bytes, played, played_on}
+use Rattle.ds_log.specs.Bodies.{Logged, Boots, Creates, SetsAttributes, HoldsBytes, HoldsFile, HoldsRoot, body_in}
+use Rattle.ds_log.specs.Durable.{start_of, durable, unbooted, created, with_lasting_file, attributed, holding, at_fileid, on_stored, with_stored, applied, applied_as, applied_bytes, played, played_on}
 
 -- a file behind a restart that kept no piece
 abbrev rest : StoredFile → StoredFile
@@ -107,6 +107,10 @@ applied_lasts s new (SetsAttributes fileid owner group mode times) k e =
     at_lasts s new fileid _ (λ (f : StoredFile). attributed f owner group mode times) (λ f still. attributed_rests f owner group mode times still) k e
 applied_lasts s new (HoldsBytes fileid mtime ctime ranges) k e =
     at_lasts s new fileid _ (λ (f : StoredFile). holding f mtime ctime ranges) (λ f still. refl) k e
+applied_lasts s new (HoldsFile name fileid owner group mode times) k e =
+    let made = with_lasting_file s name owner group mode times in
+    unless _ made new (lasts_with made (clock_of s k) (still_push s.files _ refl (lasting s k))) e
+applied_lasts s new (HoldsRoot times) k e = unless (leb times.ctime.boot s.clock.boot) (record s { root = times }) new (lasts_with (record s { root = times }) (clock_of s k) (lasting s k)) e
 
 body_lasts : (s new : ServerState) (o : Option Logged) → Lasts s → applied_as s o ≡ Some new → Lasts new
 body_lasts s new None k e = absurd (cc (e))

@@ -1,8 +1,10 @@
 -- A log with more bodies goes on from what it said before them.
 use Rattle.std.proofs.Common.{◌≡◌, ℕ, ◌+◌, true, List, [], ◌∷◌, ◌++◌, length, Option, Some, None, Result, Ok, Err, ap, ◌∙◌, arith}
+use Rattle.std.proofs.lemmas.Option.{same_Some}
 use Rattle.cluster_model.specs.Server.{ServerState}
 use Rattle.gate_log.specs.Logs.{log_size}
-use Rattle.ds_log.specs.Durable.{applied_bytes, played, played_on, unbooted, ended_well, log_state_of}
+use Rattle.ds_log.specs.Bodies.{Logged}
+use Rattle.ds_log.specs.Durable.{applied, then_all, all_applied, applied_bytes, played, played_on, unbooted, ended_well, log_state_of}
 
 pub played_append : (s mid : ServerState) (place : ℕ) (bodies more : List (List ℕ)) → played s place bodies ≡ Ok mid → played s place (bodies ++ more) ≡ played mid (place + log_size bodies) more
 played_append s mid place [] more e =
@@ -39,3 +41,14 @@ log_push number mid new bodies body e made =
     well : (all : List (List ℕ)) (r : Result ServerState ℕ) → ended_well (record { bodies = all; is_whole = true }) r ≡ Ok mid → r ≡ Ok mid
     well all (Ok s) f = f
     well all (Err place) f = absurd (cc (f))
+
+-- ---- bodies that all fit
+
+pub all_append : (s mid : ServerState) (bodies more : List Logged) → all_applied s bodies ≡ Some mid → all_applied s (bodies ++ more) ≡ all_applied mid more
+all_append s mid [] more e = ap (λ (x : ServerState). all_applied x more) (same_Some s mid e)
+all_append s mid (body ∷ bodies) more e = by_first (λ next. all_append next mid bodies more) (applied s body) e
+  where
+    by_first : ((next : ServerState) → all_applied next bodies ≡ Some mid → all_applied next (bodies ++ more) ≡ all_applied mid more)
+        → (o : Option ServerState) → then_all o (λ next. all_applied next bodies) ≡ Some mid → then_all o (λ next. all_applied next (bodies ++ more)) ≡ all_applied mid more
+    by_first rests None f = absurd (cc (f))
+    by_first rests (Some next) f = rests next f

@@ -12,7 +12,7 @@ use Rattle.ds_log.specs.declared.body.LogBody.{LogBody}
 use Rattle.ds_log.specs.PlainBodies.{plain_body}
 use Rattle.ds_log.specs.Durable.{applied, applied_as}
 use Rattle.ds_log.specs.Applies.{CameTo, Applies}
-use Rattle.ds_log.specs.Bodies.{Logged, Boots, Creates, SetsAttributes, HoldsBytes, range_value, range_from, body_form, body_value, body_from, body_read, body_in}
+use Rattle.ds_log.specs.Bodies.{Logged, Boots, Creates, SetsAttributes, HoldsBytes, HoldsFile, HoldsRoot, range_value, range_from, body_form, body_value, body_from, body_read, body_in}
 
 -- ---- a value that is all the bytes
 
@@ -39,6 +39,8 @@ body_of_value (Boots boot) = refl
 body_of_value (Creates name fileid owner group mode tick) = refl
 body_of_value (SetsAttributes fileid owner group mode times) = refl
 body_of_value (HoldsBytes fileid mtime ctime ranges) = ap (λ (ws : List Pending). HoldsBytes fileid mtime ctime ws) (plain_again ranges)
+body_of_value (HoldsFile name fileid owner group mode times) = refl
+body_of_value (HoldsRoot times) = refl
 
 -- ---- the law
 

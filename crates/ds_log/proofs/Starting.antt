@@ -1,7 +1,8 @@
 -- A server that lasts starts as it is.
-use Rattle.std.proofs.Common.{◌≡◌, ℕ, suc, ◌+◌, ◌<◌, false, eqb, List, [], ◌∷◌, Some, refl, sym, ap, arith}
+use Rattle.std.proofs.Common.{◌≡◌, ℕ, suc, ◌+◌, ◌<◌, ◌≤◌, false, eqb, List, [], ◌∷◌, Some, refl, sym, ap, subst, arith}
 use Rattle.std.specs.Prelude.{slice_get}
 use Rattle.std.proofs.lemmas.Bool.{ne_eqb}
+use Rattle.cluster_model.specs.declared.tick.Times.{Times}
 use Rattle.cluster_model.specs.File.{StoredFile, restarted}
 use Rattle.cluster_model.specs.Server.{files_restarted, restart_of, max_boot}
 use Rattle.ds_procedures.specs.declared.server_base.ServerBase.{ServerBase}
@@ -33,11 +34,22 @@ module _ (h : ServerBase) (files : List StoredFile) (k : IsLasting h files) wher
       rw (other, files_again h.clock.boot 2 files k.each) refl
 
   steady_file : (f : StoredFile) → IsLastingFile h.clock.boot f → IsSteadyFile (start_of (h.clock.boot + 1)) f
-  steady_file f lasts = record { atime = ap (λ t. t.atime) (sym lasts.times); settled = λ none. sym lasts.times; mode = lasts.mode; ctime = omega (arith, lasts.ctime); size = lasts.size }
+  steady_file f lasts =
+      let begun : f.times.ctime.boot ≤ h.clock.boot + 1 = omega (arith, lasts.ctime) in
+      record {
+        atime = ap (λ t. t.atime) (sym lasts.times);
+        settled = λ none. sym lasts.times;
+        mode = lasts.mode;
+        ctime = begun;
+        stable_ctime = subst (λ (t : Times). t.ctime.boot ≤ h.clock.boot + 1) lasts.times begun;
+        size = lasts.size;
+      }
 
   pub steady : IsSteady (server_of (record h { clock = start_of (h.clock.boot + 1) }) files)
   steady = record {
     each = λ index f there. steady_file f (k.each index f there);
     named = k.server.named;
+    names = k.names;
+    root = omega (arith, k.root);
     room = omega (arith, k.server.total, k.server.bounded);
   }

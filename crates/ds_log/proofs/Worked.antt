@@ -1,14 +1,17 @@
 -- Logs worked out byte by byte.
 use Rattle.std.proofs.Common.{◌≡◌, ℕ, List, [], ◌∷◌, map, Some, None, Ok, Err, refl}
 use Rattle.std.specs.Option.{option_map}
+use Rattle.ff_xdr.specs.Form.{word, long, padded, pad_len, spelling}
 use Rattle.ff_xdr.specs.Reading.{number_at}
 use Rattle.rpc_record.specs.Calls.{word_of}
 use Rattle.gate_log.specs.Logs.{log_within}
 use Rattle.cluster_model.specs.declared.tick.Tick.{Tick}
+use Rattle.cluster_model.specs.declared.tick.Times.{Times}
 use Rattle.cluster_model.specs.Content.{Pending}
+use Rattle.cluster_model.specs.File.{all_at}
 use Rattle.cluster_model.specs.Server.{ServerState}
-use Rattle.ds_log.specs.Bodies.{Creates, SetsAttributes, HoldsBytes}
-use Rattle.ds_log.specs.Durable.{unbooted, start_of, created, applied, log_state}
+use Rattle.ds_log.specs.Bodies.{Creates, SetsAttributes, HoldsBytes, HoldsFile, HoldsRoot, body_form, body_value, body_in}
+use Rattle.ds_log.specs.Durable.{unbooted, start_of, created, with_lasting_file, applied, log_state}
 
 -- ---- a disk of at most one byte is new
 
@@ -95,3 +98,49 @@ no_file = refl
 
 pub root_is_none : applied one_file (SetsAttributes 1 7 8 416 (record { atime = tick_at 1 1; mtime = tick_at 1 1; ctime = tick_at 1 1 })) ≡ None
 root_is_none = refl
+
+-- ---- what a snapshot has besides
+
+-- the root's times, all of them the start of boot 1
+abbrev root_bytes : List ℕ
+root_bytes = 0 ∷ 0 ∷ 0 ∷ 7 ∷ 0 ∷ 0 ∷ 0 ∷ 1 ∷ 0 ∷ 0 ∷ 0 ∷ 0 ∷ 0 ∷ 0 ∷ 0 ∷ 1 ∷ 0 ∷ 0 ∷ 0 ∷ 0 ∷ 0 ∷ 0 ∷ 0 ∷ 1 ∷ 0 ∷ 0 ∷ 0 ∷ 0 ∷ []
+
+pub root_spelled : spelling body_form (body_value (HoldsRoot (all_at (tick_at 1 0)))) ≡ root_bytes
+unfolding word
+root_spelled = refl
+
+pub root_read : body_in root_bytes ≡ Some (HoldsRoot (all_at (tick_at 1 0)))
+unfolding number_at
+root_read = refl
+
+-- a file m1 of owner 7 and group 8 with mode 0640, whose times are 1.1, 1.2 and 1.3
+abbrev three_times : Times
+three_times = record { atime = tick_at 1 1; mtime = tick_at 1 2; ctime = tick_at 1 3 }
+
+abbrev file_bytes : List ℕ
+file_bytes =
+    0 ∷ 0 ∷ 0 ∷ 6 ∷ 0 ∷ 0 ∷ 0 ∷ 2 ∷ 109 ∷ 49 ∷ 0 ∷ 0 ∷ 0 ∷ 0 ∷ 0 ∷ 0 ∷ 0 ∷ 0 ∷ 0 ∷ 2 ∷ 0 ∷ 0 ∷ 0 ∷ 7 ∷ 0 ∷ 0 ∷ 0 ∷ 8 ∷ 0 ∷ 0 ∷ 1 ∷ 160
+    ∷ 0 ∷ 0 ∷ 0 ∷ 1 ∷ 0 ∷ 0 ∷ 0 ∷ 1 ∷ 0 ∷ 0 ∷ 0 ∷ 1 ∷ 0 ∷ 0 ∷ 0 ∷ 2 ∷ 0 ∷ 0 ∷ 0 ∷ 1 ∷ 0 ∷ 0 ∷ 0 ∷ 3 ∷ []
+
+pub file_spelled : spelling body_form (body_value (HoldsFile (109 ∷ 49 ∷ []) 2 7 8 416 three_times)) ≡ file_bytes
+unfolding word long padded pad_len
+file_spelled = refl
+
+-- it leaves the root as it is, and its fileid is the next; a name in use, one of no bytes, another fileid and a ctime to come are refused
+pub file_held : applied one_file (HoldsFile (109 ∷ 49 ∷ []) 3 7 8 416 three_times) ≡ Some (with_lasting_file one_file (109 ∷ 49 ∷ []) 7 8 416 three_times)
+file_held = refl
+
+pub root_stays : option_map (λ s. s.root) (applied one_file (HoldsFile (109 ∷ 49 ∷ []) 3 7 8 416 three_times)) ≡ Some one_file.root
+root_stays = refl
+
+pub name_in_use : applied one_file (HoldsFile (109 ∷ []) 3 7 8 416 three_times) ≡ None
+name_in_use = refl
+
+pub no_name : applied one_file (HoldsFile [] 3 7 8 416 three_times) ≡ None
+no_name = refl
+
+pub other_fileid : applied one_file (HoldsFile (109 ∷ 49 ∷ []) 2 7 8 416 three_times) ≡ None
+other_fileid = refl
+
+pub root_to_come : applied one_file (HoldsRoot (all_at (tick_at 2 0))) ≡ None
+root_to_come = refl

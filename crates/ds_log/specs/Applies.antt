@@ -7,7 +7,7 @@ use Rattle.cluster_model.specs.Content.{Pending, overlay_all}
 use Rattle.cluster_model.specs.File.{StoredFile, shown, written}
 use Rattle.cluster_model.specs.Server.{ServerState, max_total}
 use Rattle.ds_procedures.specs.declared.server_base.ServerBase.{ServerBase}
-use Rattle.ds_log.specs.Bodies.{Logged, Creates, HoldsBytes}
+use Rattle.ds_log.specs.Bodies.{Logged, Creates, HoldsBytes, HoldsFile}
 use Rattle.ds_log.specs.Durable.{applied_bytes, ends_in_file}
 
 -- A body that fits made the server that is wanted, and one that does not fit changed nothing.
@@ -23,6 +23,7 @@ Applies old bytes fits new = CameTo (applied_bytes old bytes) old fits new
 abbrev pub NeedsMemory : Option Logged → Type 0
 NeedsMemory (Some (Creates name fileid owner group mode tick)) = ⊤
 NeedsMemory (Some (HoldsBytes fileid mtime ctime ranges)) = ⊤
+NeedsMemory (Some (HoldsFile name fileid owner group mode times)) = ⊤
 NeedsMemory _ = ⊥
 
 -- the index of the file with a fileid, where there is one

@@ -3,13 +3,13 @@ use Rattle.std.specs.Prelude.{ℕ, ◌+◌, ◌-◌, ◌==◌, nat_lt, nat_le, B
 use Rattle.std.specs.List.{list_all}
 use Rattle.cluster_model.specs.declared.tick.Tick.{Tick}
 use Rattle.cluster_model.specs.declared.tick.Times.{Times}
-use Rattle.cluster_model.specs.Content.{Pending, overlay_all}
+use Rattle.cluster_model.specs.Content.{Pending, no_content, overlay_all}
 use Rattle.cluster_model.specs.File.{StoredFile, all_at, new_file, restarted}
 use Rattle.cluster_model.specs.Server.{ServerState, index_of, total_size, max_file, max_total, root_after}
 use Rattle.ds_procedures.specs.declared.setattr.TheConstants.{MODE_BITS}
 use Rattle.ds_procedures.specs.declared.lookup.TheConstants.{MAX_NAME}
 use Rattle.gate_log.specs.Logs.{Log, log_of, log_size}
-use Rattle.ds_log.specs.Bodies.{Logged, Boots, Creates, SetsAttributes, HoldsBytes, body_in}
+use Rattle.ds_log.specs.Bodies.{Logged, Boots, Creates, SetsAttributes, HoldsBytes, HoldsFile, HoldsRoot, body_in}
 
 -- ---- what lasts of a server
 
@@ -39,6 +39,13 @@ has_begun s tick = nat_le tick.boot s.clock.boot
 abbrev pub created : ServerState → List ℕ → ℕ → ℕ → ℕ → Tick → ServerState
 created s name owner group mode tick =
     record s { root = root_after s.root tick; names = s.names ++ name ∷ []; files = s.files ++ new_file owner group mode tick ∷ [] }
+
+-- with a file more, which has no bytes and whose attributes last; the root stays as it is
+abbrev pub with_lasting_file : ServerState → List ℕ → ℕ → ℕ → ℕ → Times → ServerState
+with_lasting_file s name owner group mode times = record s {
+  names = s.names ++ name ∷ [];
+  files = s.files ++ record { content = no_content; owner = owner; group = group; mode = mode; times = times; stable_times = times } ∷ [];
+}
 
 -- the file at an index is this one
 abbrev pub with_stored : ServerState → ℕ → StoredFile → ServerState
@@ -76,8 +83,20 @@ applied s (HoldsBytes fileid mtime ctime ranges) =
     at_fileid s fileid
     (λ f. list_all ends_in_file ranges && nat_le (total_size (slice_set s.files (fileid - 2) (holding f mtime ctime ranges))) max_total && has_begun s ctime)
     (λ f. holding f mtime ctime ranges)
+applied s (HoldsFile name fileid owner group mode times) =
+    if is_good_name s.names name && fileid == length s.files + 2 && nat_lt mode MODE_BITS && has_begun s times.ctime then Some (with_lasting_file s name owner group mode times) else None
+applied s (HoldsRoot times) = if has_begun s times.ctime then Some (record s { root = times }) else None
 
 -- ---- a log
+
+abbrev pub then_all : Option ServerState → (ServerState → Option ServerState) → Option ServerState
+then_all None next = None
+then_all (Some s) next = next s
+
+-- what bodies make in their order, where each fits
+abbrev pub all_applied : ServerState → List Logged → Option ServerState
+all_applied s [] = Some s
+all_applied s (body ∷ bodies) = then_all (applied s body) (λ next. all_applied next bodies)
 
 abbrev pub applied_as : ServerState → Option Logged → Option ServerState
 applied_as s None = None

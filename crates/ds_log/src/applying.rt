@@ -3,16 +3,16 @@
 ghost use Rattle.std.specs.Prelude.{List, IfOk, OnErr, Some};
 ghost use Rattle.cluster_model.specs.File.{StoredFile};
 ghost use Rattle.ds_procedures.specs.ServerBases.{server_of};
-ghost use Rattle.ds_log.specs.Bodies.{Boots};
+ghost use Rattle.ds_log.specs.Bodies.{Boots, HoldsRoot};
 ghost use Rattle.ds_log.specs.PlainBodies.{plain_body};
 ghost use Rattle.ds_log.specs.Durable.{applied};
 ghost use Rattle.ds_log.specs.Lasting.{IsLasting};
 ghost use Rattle.ds_log.specs.Applies.{CameTo, NeedsMemory};
 
 use crate::body::LogBody;
-use crate::creating::{NewFile, create};
+use crate::creating::{NewFile, create, hold_file};
 use crate::storing::{hold_bytes, set_attributes};
-use cluster_model::Tick;
+use cluster_model::{Tick, Times};
 use data_file::DataFile;
 use ds_procedures::ServerBase;
 use ff_xdr::NoMemory;
@@ -27,6 +27,18 @@ fn begin_boot(head: &mut ServerBase, boot: u32) -> bool
         return false;
     }
     head.clock = Tick { boot, count: 0 };
+    true
+}
+
+/// Sets the root's times, whatever files there are, where their ctime is of a boot that has begun.
+fn set_root(head: &mut ServerBase, times: Times) -> bool
+    ensures came { (files : List StoredFile) → CameTo (applied (server_of head.old files) (HoldsRoot times)) (server_of head.old files) result (server_of head.new files) }
+    ensures keeps { (files : List StoredFile) → IsLasting head.old files → IsLasting head.new files }
+{
+    if times.ctime.boot > head.clock.boot {
+        return false;
+    }
+    head.root = times;
     true
 }
 
@@ -58,9 +70,8 @@ pub fn apply_body(
                 owner: *owner,
                 group: *group,
                 mode: *mode,
-                tick: *tick,
             };
-            create(alloc, head, files, &new)
+            create(alloc, head, files, &new, *tick)
         }
         LogBody::SetAttr {
             fileid,
@@ -75,5 +86,23 @@ pub fn apply_body(
             ctime,
             ranges,
         } => hold_bytes(head, files, *fileid, *mtime, *ctime, &ranges.items),
+        LogBody::File {
+            name,
+            fileid,
+            owner,
+            group,
+            mode,
+            times,
+        } => {
+            let new = NewFile {
+                name,
+                fileid: *fileid,
+                owner: *owner,
+                group: *group,
+                mode: *mode,
+            };
+            hold_file(alloc, head, files, &new, *times)
+        }
+        LogBody::Root(times) => Ok(set_root(head, *times)),
     }
 }

@@ -12,6 +12,9 @@ use crate::wire_tick::WireTick;
 use cluster_model::{Tick, Times};
 use ff_xdr::{Array, Cursor, Message, NoMemory, Out, Wire, XdrError};
 
+/// Times: atime, mtime and ctime.
+type WireTimes = (WireTick, WireTick, WireTick);
+
 /// Any number of ranges.
 type Ranges<'a> = Array<'a, Range<'a>, { u32::MAX }>;
 
@@ -44,6 +47,17 @@ pub enum LogBody<'a> {
         ctime: Tick,
         ranges: Array<'a, Range<'a>, { u32::MAX }>,
     },
+    /// There is a file with these attributes, which last, and no bytes.
+    File {
+        name: &'a [u8],
+        fileid: u64,
+        owner: u32,
+        group: u32,
+        mode: u32,
+        times: Times,
+    },
+    /// The root's times.
+    Root(Times),
 }
 
 impl<'a> Message for LogBody<'a> {
@@ -55,7 +69,7 @@ impl<'a> Message for LogBody<'a> {
 }
 
 /// Times in XDR, one behind the other.
-fn wire_times(times: &Times) -> (WireTick, WireTick, WireTick)
+fn wire_times(times: &Times) -> WireTimes
     ensures { result ≡ (record { tick = times.now.atime }, record { tick = times.now.mtime }, record { tick = times.now.ctime }) }
 {
     (
@@ -63,6 +77,18 @@ fn wire_times(times: &Times) -> (WireTick, WireTick, WireTick)
         WireTick { tick: times.mtime },
         WireTick { tick: times.ctime },
     )
+}
+
+/// Times as they were read.
+fn times_of(wire: WireTimes) -> Times
+    ensures { result ≡ record { atime = wire.0.tick; mtime = wire.1.tick; ctime = wire.2.tick } }
+{
+    let (atime, mtime, ctime) = wire;
+    Times {
+        atime: atime.tick,
+        mtime: mtime.tick,
+        ctime: ctime.tick,
+    }
 }
 
 /// Reads the body of a record that says that a file was made, behind its number.
@@ -88,21 +114,14 @@ fn read_create<'a>(cursor: &mut Cursor<'a>) -> Result<LogBody<'a>, XdrError>
 fn read_set_attr<'a>(cursor: &mut Cursor<'a>) -> Result<LogBody<'a>, XdrError>
     ensures { Decodes (λ body. body_value (plain_body body)) cursor.old result cursor.new (arm_reading body_form 3 cursor.old.bytes cursor.old.at) }
 {
-    let (fileid, owner, (group, mode, (atime, mtime, ctime))) = <(
-        u64,
-        u32,
-        (u32, u32, (WireTick, WireTick, WireTick)),
-    )>::read(cursor)?;
+    let (fileid, owner, (group, mode, wire)) =
+        <(u64, u32, (u32, u32, WireTimes))>::read(cursor)?;
     Ok(LogBody::SetAttr {
         fileid,
         owner,
         group,
         mode,
-        times: Times {
-            atime: atime.tick,
-            mtime: mtime.tick,
-            ctime: ctime.tick,
-        },
+        times: times_of(wire),
     })
 }
 
@@ -117,6 +136,33 @@ fn read_bytes<'a>(cursor: &mut Cursor<'a>) -> Result<LogBody<'a>, XdrError>
         ctime: ctime.tick,
         ranges,
     })
+}
+
+/// Reads the body of a record that says that there is a file, behind its number.
+fn read_file<'a>(cursor: &mut Cursor<'a>) -> Result<LogBody<'a>, XdrError>
+    ensures { Decodes (λ body. body_value (plain_body body)) cursor.old result cursor.new (arm_reading body_form 6 cursor.old.bytes cursor.old.at) }
+{
+    let (name, fileid, (owner, group, (mode, wire))) = <(
+        Bytes<'a>,
+        u64,
+        (u32, u32, (u32, WireTimes)),
+    )>::read(cursor)?;
+    Ok(LogBody::File {
+        name: name.bytes,
+        fileid,
+        owner,
+        group,
+        mode,
+        times: times_of(wire),
+    })
+}
+
+/// Reads the body of a record that says the root's times, behind its number.
+fn read_root<'a>(cursor: &mut Cursor<'a>) -> Result<LogBody<'a>, XdrError>
+    ensures { Decodes (λ body. body_value (plain_body body)) cursor.old result cursor.new (arm_reading body_form 7 cursor.old.bytes cursor.old.at) }
+{
+    let wire = WireTimes::read(cursor)?;
+    Ok(LogBody::Root(times_of(wire)))
 }
 
 /// Appends the body of a record that says that bytes became stable. At an error a part of it may stand in `out`.
@@ -150,6 +196,8 @@ impl<'a> Wire<'a> for LogBody<'a> {
             2 => read_create(&mut fork)?,
             3 => read_set_attr(&mut fork)?,
             4 => read_bytes(&mut fork)?,
+            6 => read_file(&mut fork)?,
+            7 => read_root(&mut fork)?,
             _ => return Err(XdrError::not_enum(cursor.place())),
         };
         *cursor = fork;
@@ -186,6 +234,18 @@ impl<'a> Wire<'a> for LogBody<'a> {
                 ctime,
                 ranges,
             } => put_bytes(*fileid, *mtime, *ctime, *ranges, out),
+            LogBody::File {
+                name,
+                fileid,
+                owner,
+                group,
+                mode,
+                times,
+            } => {
+                let rest = (*group, *mode, wire_times(times));
+                (6u32, Bytes { bytes: name }, (*fileid, *owner, rest)).put(out)
+            }
+            LogBody::Root(times) => (7u32, wire_times(times)).put(out),
         }
     }
 
@@ -216,6 +276,18 @@ impl<'a> Wire<'a> for LogBody<'a> {
                 ctime,
                 ranges,
             } => bytes_fit(*fileid, *mtime, *ctime, *ranges),
+            LogBody::File {
+                name,
+                fileid,
+                owner,
+                group,
+                mode,
+                times,
+            } => {
+                let rest = (*owner, *group, (*mode, wire_times(times)));
+                (Bytes { bytes: name }, *fileid, rest).fits()
+            }
+            LogBody::Root(times) => wire_times(times).fits(),
         }
     }
 }

@@ -1,6 +1,6 @@
 //! The names of the files in the root.
 
-ghost use Rattle.std.specs.Prelude.{◌≡◌, [], ◌∷◌, ◌++◌, length, None, OnOk, OnErr, IfSome, ◌<◌};
+ghost use Rattle.std.specs.Prelude.{◌≡◌, [], ◌∷◌, ◌++◌, length, None, OnOk, OnErr, IfSome, ◌<◌, option_copied, slice_get};
 ghost use Rattle.cluster_model.specs.Server.{index_of};
 
 use ff_xdr::NoMemory;
@@ -40,6 +40,14 @@ impl Names {
         ensures within { IfSome result (λ index. index < length self.now) }
     {
         self.names.get_index_of(name)
+    }
+
+    /// The name that stands at an index, from 0, where there is one.
+    pub fn at(&self, index: usize) -> Option<&[u8]>
+        ensures { option_copied result ≡ slice_get self.now index }
+    {
+        let name = self.names.get_index(index)?;
+        Some(name)
     }
 
     /// Adds a name that is not there, behind the others. At an error nothing has changed.

@@ -1,0 +1,5 @@
+pub mod Chunks
+pub mod Playing
+pub mod Left
+pub mod Sizing
+pub mod Written

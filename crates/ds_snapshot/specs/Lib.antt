@@ -1,0 +1,3 @@
+pub mod Snapshots
+pub mod NextBodies
+pub mod Sizes
