@@ -1,0 +1,4 @@
+mod Holders
+mod Heads
+pub mod Files
+mod Openings
