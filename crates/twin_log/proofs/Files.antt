@@ -1,10 +1,16 @@
 -- What the bodies of a file say, and what two files say together.
-use Rattle.std.proofs.Common.{◌≡◌, ℕ, ◌+◌, ◌<◌, Bool, true, false, eqb, cond, List, [], ◌∷◌, ◌++◌, length, Option, Some, None, refl, sym, ap, subst, ◌∙◌, arith, inl, inr, tt}
+use Rattle.std.proofs.Common.{◌≡◌, ℕ, ◌+◌, ◌<◌, Bool, true, false, eqb, cond, List, [], ◌∷◌, ◌++◌, length, Result, Ok, ltb, ◌^◌, append-nil, Option, Some, None, refl, sym, ap, subst, ◌∙◌, arith, inl, inr}
 use Rattle.std.proofs.lemmas.Option.{same_Some}
-use Rattle.std.proofs.lemmas.Bool.{cond_both, cases_Bool}
+use Rattle.std.proofs.lemmas.Bool.{cond_both, cases_Bool, le-ltb}
+use Rattle.std.proofs.lemmas.List.{length-append}
+use Rattle.ff_xdr.specs.Form.{word, long}
+use Rattle.ff_xdr.proofs.Fields.{length-word}
+use Rattle.ff_xdr.specs.Reading.{Read, reading, whole}
+use Rattle.ff_xdr.proofs.Again.{again}
+use Rattle.ff_xdr.proofs.CutShort.{length-long}
 use Rattle.gate_log.specs.Logs.{Log, log_of, log_size}
 use Rattle.gate_log.specs.Appends.{whole_log}
-use Rattle.twin_log.specs.Twins.{first_generation, first_place, generation_by, generation_in, generation_of, without_generation}
+use Rattle.twin_log.specs.Twins.{first_generation, first_place, generation_body, generation_form, generation_read, generation_value, generation_by, generation_in, generation_of, without_generation}
 use Rattle.twin_log.specs.KeptLogs.{SaysLog, IsFileOf}
 
 -- a whole log that has a record
@@ -36,3 +42,19 @@ places_add (body ∷ all) generation start bodies says =
   where
     sides : (g : ℕ) → 5 + length body + log_size all ≡ cond (eqb g 0) 0 (5 + length body) + log_size (cond (eqb g 0) (body ∷ all) all)
     sides g = elim (cases_Bool (eqb g 0)) [ inl is ↦ rw is (omega arith) | inr is ↦ rw is refl ]
+
+pub length_generation : (g : ℕ) → length (generation_body g) ≡ 12
+length_generation g = omega (arith, length-append (word 5) (long g), length-word 5, length-long g)
+
+whole_all : {M : Type 0} (bytes : List ℕ) (x : M × ℕ) (r : Read M) → r ≡ Ok x → x.1 ≡ length bytes → whole bytes r ≡ Ok x.0
+whole_all bytes x r is end =
+    let left : ltb x.1 (length bytes) ≡ false = le-ltb _ _ (omega (arith, end)) in
+    rw is (rw left refl)
+
+-- a generation is read from its body
+pub generation_again : (g : ℕ) → g < 2 ^ 64 → generation_in (generation_body g) ≡ g
+generation_again g fits =
+    let text = generation_body g in
+    let size : 0 + length text ≡ length text = omega arith in
+    let read : reading generation_form text 0 ≡ Ok (generation_value g, 0 + length text) = subst (λ (t : List ℕ). reading generation_form t 0 ≡ Ok (generation_value g, 0 + length text)) (append-nil text) (again generation_form refl (generation_value g) [] [] fits) in
+    ap generation_read (whole_all text (generation_value g, 0 + length text) (reading generation_form text 0) read size)

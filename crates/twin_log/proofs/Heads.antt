@@ -1,5 +1,5 @@
 -- What a file begins with.
-use Rattle.std.proofs.Common.{◌≡◌, ℕ, ◌+◌, ◌<◌, ◌≤◌, true, false, List, [], ◌∷◌, length, drop, Option, Some, None, Result, Ok, refl, sym, ap, subst, ◌∙◌, arith, tt}
+use Rattle.std.proofs.Common.{◌≡◌, ℕ, ◌+◌, ◌<◌, ◌≤◌, true, false, List, [], ◌∷◌, length, drop, Option, Some, None, Result, Ok, refl, sym, ap, subst, ◌∙◌, arith}
 use Rattle.store_disk.specs.Disks.{DiskLife, Measures}
 use Rattle.gate_log.specs.Logs.{Log, Gate, Closed, Broken, Opens, gate_of, log_of, log_from, log_at, ended_log, with_body}
 use Rattle.gate_log.specs.Appends.{FindsGate}

@@ -2,3 +2,5 @@ mod Holders
 mod Heads
 pub mod Files
 mod Openings
+pub mod Sides
+mod ReadOn

@@ -26,6 +26,7 @@ pub record IsOrdered (log : KeptLogState) : Type 0 where
   pub order : log.end ≤ log.at
   pub bounded : log.at < 2 ^ 64 - 1
   pub next : log.next ≤ log.size
+  pub within : log.at ≤ log.size
   pub renewed : IfSome log.renewed (λ at. (0 < at) × (at < 2 ^ 64 - 1))
   pub room : log.renewed ≢ None → IfSome log.generation (λ generation. generation < 2 ^ 64 - 1)
 
@@ -69,24 +70,24 @@ generation_said New = None
 generation_said (Has generation start bodies) = Some generation
 generation_said (Bad place) = None
 
--- a file holds the log, all of it synced
-pub record HoldsFile (told : Option DiskLife) (generation start : ℕ) (bodies : List (List ℕ)) (end : ℕ) : Type 0 where
+-- a file of so many bytes holds the log, all of it synced
+pub record HoldsFile (told : Option DiskLife) (generation start : ℕ) (bodies : List (List ℕ)) (end size : ℕ) : Type 0 where
   pub all : List (List ℕ)
   pub log : HoldsLog told all end
   pub says : SaysLog all generation start bodies
+  pub size_is : HasSize told size
 
 -- The file of the log's side holds what is said; where nothing is, it has no record.
-abbrev pub HoldsSaid : TwinLog → Option DiskLife → ℕ → Type 0
-HoldsSaid New told end = StandsPassed None told
-HoldsSaid (Has generation start bodies) told end = HoldsFile told generation start bodies end
-HoldsSaid (Bad place) told end = ⊥
+abbrev pub HoldsSaid : TwinLog → KeptLogState → Option DiskLife → Type 0
+HoldsSaid New log told = StandsPassed None told
+HoldsSaid (Has generation start bodies) log told = HoldsFile told generation start bodies log.end log.size
+HoldsSaid (Bad place) log told = ⊥
 
 -- The two disks have this log between them, all of it synced; no record waits, and no renewal is under way.
 pub record StandsTwin (log : KeptLogState) (says : TwinLog) (disk spare : Option DiskLife) : Type 0 where
   pub generation_is : log.generation ≡ generation_said says
-  pub own : HoldsSaid says (at_side log.side disk spare) log.end
+  pub own : HoldsSaid says log (at_side log.side disk spare)
   pub other : StandsPassed log.generation (at_side (opposite log.side) disk spare)
-  pub size : HasSize (at_side log.side disk spare) log.size
   pub none_waits : log.at ≡ log.end
   pub none_renews : log.renewed ≡ None
 
@@ -108,12 +109,11 @@ next_generation (Some generation) = generation + 1
 -- A log with these bodies is being made in the other file.
 pub record RenewsTwin (log : KeptLogState) (says : TwinLog) (put : List (List ℕ)) (disk spare : Option DiskLife) : Type 0 where
   pub generation_is : log.generation ≡ generation_said says
-  pub own : HoldsSaid says (at_side log.side disk spare) log.end
+  pub own : HoldsSaid says log (at_side log.side disk spare)
   pub renewed : ℕ
   pub renewed_is : log.renewed ≡ Some renewed
   pub target : Stages (at_side (opposite log.side) disk spare) [] (generation_body (next_generation log.generation) ∷ put) 0 renewed
   pub target_size : HasSize (at_side (opposite log.side) disk spare) (renewed + 1)
-  pub size : HasSize (at_side log.side disk spare) log.size
   pub none_waits : log.at ≡ log.end
 
 -- ---- opening

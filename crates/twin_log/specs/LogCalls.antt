@@ -93,8 +93,14 @@ ReadsOn start done rest old (Err (cause.BadLog place)) body new = ⊥
 ReadsOn start done rest old (Err cause.Disk) body new = new ≡ old
 ReadsOn start done rest old (Err cause.NoMemory) body new = new ≡ old
 
+-- this holds where a disk tells
+abbrev pub WhereTold : Option DiskLife → Type 0 → Type 0
+WhereTold None P = ⊤
+WhereTold (Some life) P = P
+
 abbrev pub ReadsTwin : KeptLogState → Option DiskLife → Option DiskLife → Result Bool LogCause → List ℕ → KeptLogState → Type 0
-ReadsTwin old disk spare result body new = (generation start : ℕ) (done rest : List (List ℕ)) → StandsTwin old (Has generation start (done ++ rest)) disk spare → IsReadTo start done old → ReadsOn start done rest old result body new
+ReadsTwin old disk spare result body new =
+    (generation start : ℕ) (done rest : List (List ℕ)) → StandsTwin old (Has generation start (done ++ rest)) disk spare → IsReadTo start done old → WhereTold (at_side old.side disk spare) (ReadsOn start done rest old result body new)
 
 -- ---- the same calls on the file of a side
 

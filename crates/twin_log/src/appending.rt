@@ -83,6 +83,7 @@ impl KeptLog {
         }
         seal_on(self.side, disk, spare, self.end, self.at)?;
         self.end = self.at;
+        self.next = self.at;
         Ok(())
     }
 }
