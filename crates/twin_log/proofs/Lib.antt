@@ -1,0 +1,6 @@
+mod Holders
+mod Heads
+pub mod Files
+mod Openings
+pub mod Sides
+mod ReadOn

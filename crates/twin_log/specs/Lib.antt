@@ -1,0 +1,6 @@
+pub mod Twins
+pub mod PlainHolders
+pub mod Causes
+pub mod KeptLogs
+pub mod LogCalls
+pub mod Opening
