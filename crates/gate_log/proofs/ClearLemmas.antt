@@ -1,5 +1,5 @@
 -- A disk is cleared.
-use Rattle.std.proofs.Common.{◌≡◌, ℕ, List, [], ◌∷◌, length, take, min, Option, Some, None, Result, Ok, Err, ◌⊎◌, inl, inr, refl, sym, ap, subst, ◌∙◌, arith}
+use Rattle.std.proofs.Common.{◌≡◌, ◌≤◌, ℕ, Bool, true, false, List, [], ◌∷◌, length, take, min, Option, Some, None, Result, Ok, Err, inl, inr, refl, sym, ap, subst, ◌∙◌, arith}
 use Rattle.std.proofs.lemmas.Bool.{cases_eq}
 use Rattle.std.proofs.lemmas.List.{length-take, length-append, length-replicate}
 use Rattle.cluster_model.specs.Content.{overlay}
@@ -12,7 +12,7 @@ use Rattle.store_disk.proofs.Placed.{cut_whole}
 use Rattle.gate_log.specs.Logs.{Closed, gate_of}
 use Rattle.gate_log.specs.Appends.{IsSynced, KeepsLog}
 use Rattle.gate_log.specs.Heads.{FindsHead, HeadSays}
-use Rattle.gate_log.specs.Staging.{Clears, ClearsDisk, ClosesFirst, HasBodies, IsSameOrEmpty, KeepsClosedGate}
+use Rattle.gate_log.specs.Staging.{Clears, ClearsDisk, ClosesFirst, HasBodies, IsOpenFirst, IsSameOrEmpty, KeepsClosedGate, LooksAtFirst}
 use Rattle.gate_log.specs.declared.reading.Head.{Head}
 use Rattle.gate_log.specs.declared.reading.Head.TheVariants as head
 use Rattle.gate_log.proofs.GateLemmas.{closed_again, closed_some, gate_other}
@@ -26,12 +26,8 @@ closed_empty left closed = disk_log [] left (log_by_gate left Closed closed)
 
 -- ---- the first gate is closed
 
--- no gate byte stands first, or an open one
-abbrev pub IsOpenFirst : List ℕ → Type 0
-IsOpenFirst bytes = (bytes ≡ []) ⊎ ((rest : List ℕ) × (bytes ≡ 1 ∷ rest))
-
 open_first : (bytes : List ℕ) → (gate_of bytes ≡ Closed → ⊥) → IsOpenFirst bytes
-open_first [] not_closed = inl refl
+open_first [] not_closed = inl (omega arith)
 open_first (byte ∷ bytes) not_closed = elim (cases_eq byte 1) [
   | inl one ↦ inr (bytes, ap (λ (b : ℕ). b ∷ bytes) one)
   | inr other ↦ absurd (not_closed (gate_other byte bytes other))
@@ -45,7 +41,7 @@ not_closed bytes (head.Opens n) other says closed = let opens = says.gate in cc 
 
 -- the write of a closed gate there, however a crash tears it
 close_torn : (bytes left : List ℕ) → IsOpenFirst bytes → Torn 0 1 bytes left → IsSameOrEmpty bytes left
-close_torn bytes left (inl none) torn = inr (few_log left (omega (arith, ap length none, torn.no_longer)))
+close_torn bytes left (inl few) torn = inr (few_log left (omega (arith, few, torn.no_longer)))
 close_torn bytes left (inr some) torn = by left (subst (λ (xs : List ℕ). Torn 0 1 xs left) some.1 torn)
   where
     by : (xs : List ℕ) → Torn 0 1 (1 ∷ some.0) xs → IsSameOrEmpty bytes xs
@@ -68,13 +64,27 @@ closes_same (Some life) new result same closed = λ synced. record {
 }
 
 -- what was found at the first gate
-pub found_closed : (told : Option DiskLife) (size : ℕ) (h : Head) → Measures told (Ok size) → FindsHead told 0 size (Ok h) → h ≡ head.Closed → Told told (λ life. gate_of life.now.seen ≡ Closed)
-found_closed None size h is finds closed = tt
-found_closed (Some life) size h is finds closed = subst (λ (h : Head). HeadSays life.now.seen h) closed (finds is)
+pub looks_few : (told : Option DiskLife) (size : ℕ) → Measures told (Ok size) → size ≤ 1 → LooksAtFirst told (Ok true)
+looks_few None size is few = tt
+looks_few (Some life) size is few = inl (omega (arith, is, few))
 
-pub found_open : (told : Option DiskLife) (size : ℕ) (h : Head) → Measures told (Ok size) → FindsHead told 0 size (Ok h) → (h ≡ head.Closed → ⊥) → Told told (λ life. IsOpenFirst life.now.seen)
-found_open None size h is finds other = tt
-found_open (Some life) size h is finds other = open_first life.now.seen (not_closed life.now.seen h other (finds is))
+pub looks_closed : (told : Option DiskLife) (size : ℕ) (h : Head) → Measures told (Ok size) → FindsHead told 0 size (Ok h) → h ≡ head.Closed → LooksAtFirst told (Ok false)
+looks_closed None size h is finds closed = tt
+looks_closed (Some life) size h is finds closed = subst (λ (h : Head). HeadSays life.now.seen h) closed (finds is)
+
+pub looks_open : (told : Option DiskLife) (size : ℕ) (h : Head) → Measures told (Ok size) → FindsHead told 0 size (Ok h) → (h ≡ head.Closed → ⊥) → LooksAtFirst told (Ok true)
+looks_open None size h is finds other = tt
+looks_open (Some life) size h is finds other = open_first life.now.seen (not_closed life.now.seen h other (finds is))
+
+pub is_closed : (told : Option DiskLife) (b : Bool) → LooksAtFirst told (Ok b) → b ≡ false → Told told (λ life. gate_of life.now.seen ≡ Closed)
+is_closed None b looks is = tt
+is_closed (Some life) true looks is = absurd (cc (is))
+is_closed (Some life) false looks is = looks
+
+pub is_open : (told : Option DiskLife) (b : Bool) → LooksAtFirst told (Ok b) → b ≡ true → Told told (λ life. IsOpenFirst life.now.seen)
+is_open None b looks is = tt
+is_open (Some life) true looks is = looks
+is_open (Some life) false looks is = absurd (cc (is))
 
 module _ (life : DiskLife) (opens : IsOpenFirst life.now.seen) (synced : IsSynced life) where
   abbrev bytes : List ℕ
@@ -111,15 +121,6 @@ closes_sync (Some life) x written result new opens writes is = λ synced. record
   crash = since_sync (IsSameOrEmpty life.now.seen) (Some life) written result new (closing life opens synced (Ok x) written writes) is;
   kept = λ y ok. closed_then life opens synced x written writes y new (subst (λ (r : Result (Unit {0}) Failed). Syncs written r new) ok is);
 }
-
--- a look at the first gate changes nothing
-pub opens_looked : (old asked looked : Option DiskLife) (size : ℕ) (h : Head) → Measures old (Ok size) → asked ≡ old → FindsHead asked 0 size (Ok h) → looked ≡ asked → (h ≡ head.Closed → ⊥) → Told looked (λ life. IsOpenFirst life.now.seen)
-opens_looked old asked looked size h is same finds later other =
-    subst (λ (o : Option DiskLife). Told o (λ life. IsOpenFirst life.now.seen)) (sym (later ∙ same))
-    (found_open old size h is (subst (λ (o : Option DiskLife). FindsHead o 0 size (Ok h)) same finds) other)
-
-pub closes_looked : (old asked looked : Option DiskLife) (result : Result (Unit {0}) Failed) (new : Option DiskLife) → asked ≡ old → looked ≡ asked → ClosesFirst looked result new → ClosesFirst old result new
-closes_looked old asked looked result new same later h = subst (λ (o : Option DiskLife). ClosesFirst o result new) (later ∙ same) h
 
 -- ---- the disk is cut to its first gate
 

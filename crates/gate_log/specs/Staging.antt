@@ -2,7 +2,7 @@
 --
 -- They are written behind the log's closed gate, each with its own gate open, and a closed gate behind the last. Until the log's gate is opened none
 -- of them is part of it; once it is, all are.
-use Rattle.std.specs.Prelude.{⊤, ◌≡◌, ◌⊎◌, ℕ, ◌+◌, ◌^◌, ◌<◌, List, [], ◌∷◌, ◌++◌, length, take, drop, max, true, false, Option, Some, None, Result, Ok, Err}
+use Rattle.std.specs.Prelude.{⊤, ◌≡◌, ◌⊎◌, ℕ, ◌+◌, ◌^◌, ◌<◌, ◌≤◌, List, [], ◌∷◌, ◌++◌, length, take, drop, max, Bool, true, false, Option, Some, None, Result, Ok, Err}
 use Rattle.std.specs.List.{AllByRecursion}
 use Rattle.rpc_record.specs.declared.stream.Failed.{Failed}
 use Rattle.store_disk.specs.Disks.{DiskLife, AllImages, LeavesSince}
@@ -67,6 +67,17 @@ pub record SealsLog (old : Option DiskLife) (bodies staged : List (List ℕ)) (a
 -- the bytes are as they were, or have a log with no record
 abbrev pub IsSameOrEmpty : List ℕ → List ℕ → Type 0
 IsSameOrEmpty bytes left = (left ≡ bytes) ⊎ HasBodies [] left
+
+-- at most one byte, or an open gate stands first
+abbrev pub IsOpenFirst : List ℕ → Type 0
+IsOpenFirst bytes = (length bytes ≤ 1) ⊎ ((rest : List ℕ) × (bytes ≡ 1 ∷ rest))
+
+-- whether the first gate is to be closed; it is closed where it is not to be
+abbrev pub LooksAtFirst : Option DiskLife → Result Bool Failed → Type 0
+LooksAtFirst None result = ⊤
+LooksAtFirst (Some life) (Ok true) = IsOpenFirst life.now.seen
+LooksAtFirst (Some life) (Ok false) = gate_of life.now.seen ≡ Closed
+LooksAtFirst (Some life) (Err e) = ⊤
 
 -- all is synced, and the first gate is closed
 abbrev pub KeepsClosedGate : Option DiskLife → Type 0

@@ -2,7 +2,7 @@
 
 ghost use Rattle.std.specs.Prelude.{◌≡◌, ◌≢◌, ◌+◌, ◌-◌, ◌<◌, ◌≤◌, ◌^◌, ℕ, List, IfOk, length};
 ghost use Rattle.rpc_record.specs.Stream.{counted};
-ghost use Rattle.gate_log.specs.Staging.{ClearsDisk, ClosesFirst, FindsEnd, IsEndWithin, SealsLog, Stages, StagesMore};
+ghost use Rattle.gate_log.specs.Staging.{ClearsDisk, ClosesFirst, FindsEnd, IsEndWithin, LooksAtFirst, SealsLog, Stages, StagesMore};
 
 use crate::gated::{Gated, HEAD};
 use crate::reading::{Head, read_head};
@@ -61,22 +61,37 @@ pub fn seal<D: Disk>(disk: &mut D, end: u64, at: u64) -> Result<(), Failed>
     disk.sync()
 }
 
-/// Closes the first gate and syncs it, where it is not closed already.
+/// Whether the first gate is to be closed before a disk is cut to it: the disk has at most one byte, or that gate is open.
+fn is_to_close<D: Disk>(disk: &mut D) -> Result<bool, Failed>
+    ensures looks { LooksAtFirst (D.told disk.old) result }
+    ensures same { D.told disk.new ≡ D.told disk.old }
+    ensures faults { D.faults disk.new ≡ counted result (D.faults disk.old) }
+{
+    let size = disk.length()?;
+    if size <= 1 {
+        return Ok(true);
+    }
+    if let Head::Closed = read_head(disk, 0, size)? {
+        return Ok(false);
+    }
+    Ok(true)
+}
+
+/// Closes the first gate and syncs it, where it is to be closed.
 fn close_first<D: Disk>(disk: &mut D) -> Result<(), Failed>
     ensures closes { ClosesFirst (D.told disk.old) result (D.told disk.new) }
     ensures faults { D.faults disk.new ≡ counted result (D.faults disk.old) }
 {
-    let size = disk.length()?;
-    if let Head::Closed = read_head(disk, 0, size)? {
+    if !is_to_close(disk)? {
         return Ok(());
     }
     disk.write_at(0, &[0])?;
     disk.sync()
 }
 
-/// Clears a disk that is to take a new log, where all is synced: its first gate is closed and synced, where it is not
-/// closed already. Then the disk is cut to that one byte, and synced. So a crash leaves the log as it was, or an empty
-/// one.
+/// Clears a disk that is to take a new log, where all is synced: where it has at most one byte, or its first gate is open,
+/// that gate is closed and synced; any other first byte is left. Then the disk is cut to that one byte, and synced. So a
+/// crash leaves the log as it was, or an empty one.
 pub fn clear<D: Disk>(disk: &mut D) -> Result<(), Failed>
     ensures clears { ClearsDisk (D.told disk.old) result (D.told disk.new) }
     ensures faults { D.faults disk.new ≡ counted result (D.faults disk.old) }
