@@ -1,5 +1,5 @@
 -- What the bodies of a file say, and what two files say together.
-use Rattle.std.proofs.Common.{◌≡◌, ℕ, ◌+◌, ◌<◌, Bool, true, false, eqb, cond, List, [], ◌∷◌, ◌++◌, length, Result, Ok, ltb, ◌^◌, append-nil, Option, Some, None, refl, sym, ap, subst, ◌∙◌, arith, inl, inr}
+use Rattle.std.proofs.Common.{◌≡◌, ℕ, ◌+◌, ◌<◌, Bool, true, false, eqb, cond, List, [], ◌∷◌, ◌++◌, length, Ok, ltb, ◌^◌, append-nil, Some, refl, ap, subst, ◌∙◌, arith, inl, inr}
 use Rattle.std.proofs.lemmas.Option.{same_Some}
 use Rattle.std.proofs.lemmas.Bool.{cond_both, cases_Bool, le-ltb}
 use Rattle.std.proofs.lemmas.List.{length-append}
@@ -8,10 +8,10 @@ use Rattle.ff_xdr.proofs.Fields.{length-word}
 use Rattle.ff_xdr.specs.Reading.{Read, reading, whole}
 use Rattle.ff_xdr.proofs.Again.{again}
 use Rattle.ff_xdr.proofs.CutShort.{length-long}
-use Rattle.gate_log.specs.Logs.{Log, log_of, log_size}
+use Rattle.gate_log.specs.Logs.{Log, log_size}
 use Rattle.gate_log.specs.Appends.{whole_log}
-use Rattle.twin_log.specs.Twins.{first_generation, first_place, generation_body, generation_form, generation_read, generation_value, generation_by, generation_in, generation_of, without_generation}
-use Rattle.twin_log.specs.KeptLogs.{SaysLog, IsFileOf}
+use Rattle.twin_log.specs.Twins.{first_generation, generation_body, generation_form, generation_read, generation_value, generation_by, generation_in}
+use Rattle.twin_log.specs.KeptLogs.{SaysLog}
 
 -- a whole log that has a record
 pub whole_is : (log : Log) → log.is_whole ≡ true → log ≡ whole_log log.bodies

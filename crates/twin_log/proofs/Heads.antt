@@ -1,12 +1,12 @@
 -- What a file begins with.
-use Rattle.std.proofs.Common.{◌≡◌, ℕ, ◌+◌, ◌<◌, ◌≤◌, true, false, List, [], ◌∷◌, length, drop, Option, Some, None, Result, Ok, refl, sym, ap, subst, ◌∙◌, arith}
+use Rattle.std.proofs.Common.{◌≡◌, ℕ, ◌+◌, ◌<◌, true, false, List, length, drop, Option, Some, None, Ok, refl, sym, ap, ◌∙◌, arith}
 use Rattle.store_disk.specs.Disks.{DiskLife, Measures}
 use Rattle.gate_log.specs.Logs.{Log, Gate, Closed, Broken, Opens, gate_of, log_of, log_from, log_at, ended_log, with_body}
 use Rattle.gate_log.specs.Appends.{FindsGate}
 use Rattle.gate_log.specs.declared.reading.Found.TheVariants as found
-use Rattle.gate_log.proofs.LogLemmas.{many_log, few_log, log_by_gate}
+use Rattle.gate_log.proofs.LogLemmas.{many_log, log_by_gate}
 use Rattle.twin_log.specs.declared.kept_log.FileHead.{FileHead}
-use Rattle.twin_log.specs.Twins.{first_place, generation_in, generation_of}
+use Rattle.twin_log.specs.Twins.{first_place, generation_of}
 use Rattle.twin_log.specs.Opening.{BeginsAs, HeadOf, head_with}
 
 log_by : (bytes : List ℕ) (g : Gate) → 1 < length bytes → gate_of bytes ≡ g → log_of bytes ≡ log_at g (λ rest. log_from rest)
@@ -35,4 +35,3 @@ module _ (size : ℕ) (body : List ℕ) (many : 1 < size) where
   opens_head (Some life) m g =
       let rest : List ℕ = drop (5 + length body) life.now.seen in
       begins life.now.seen (with_body body (log_from rest)) (head_with size body) (log_by life.now.seen (Opens body rest) (omega (arith, many, m)) (g m)) m refl refl
-

@@ -1,5 +1,5 @@
 -- Which of two files has the log.
-use Rattle.std.proofs.Common.{◌≡◌, ℕ, ◌<◌, Bool, true, false, eqb, ltb, cond, Option, Some, None, refl, arith}
+use Rattle.std.proofs.Common.{◌≡◌, ℕ, eqb, ltb, cond, Option, Some, None, refl, arith}
 use Rattle.std.proofs.lemmas.Bool.{cond_both, ltb-true, ltb-false, eqb-false}
 use Rattle.twin_log.specs.declared.side.Side.TheVariants.{Disk, Spare}
 use Rattle.twin_log.specs.Twins.{LogHolder, Neither, On, Both, log_holder}

@@ -4,3 +4,4 @@ pub mod Files
 mod Openings
 pub mod Sides
 mod ReadOn
+mod Joining

@@ -1,5 +1,5 @@
 -- The log that two files have between them is found.
-use Rattle.std.proofs.Common.{◌≡◌, ℕ, ◌+◌, ◌<◌, true, false, List, [], ◌∷◌, ◌++◌, length, drop, Option, Some, None, Result, Ok, Err, refl, sym, ap, subst, ◌∙◌, arith, inl, inr}
+use Rattle.std.proofs.Common.{◌≡◌, ℕ, ◌<◌, true, false, List, length, drop, Option, Some, None, Result, Ok, Err, refl, sym, ap, subst, ◌∙◌, arith, inl, inr}
 use Rattle.std.proofs.lemmas.Bool.{cases_lt}
 use Rattle.std.proofs.lemmas.List.{length-drop}
 use Rattle.gate_log.proofs.LogLemmas.{few_log}
@@ -7,7 +7,6 @@ use Rattle.store_disk.specs.Disks.{DiskLife}
 use Rattle.gate_log.specs.Logs.{Log, Closed, gate_of, log_of, log_size}
 use Rattle.gate_log.specs.Appends.{IsSynced}
 use Rattle.gate_log.proofs.GateLemmas.{closed_some}
-use Rattle.twin_log.specs.declared.side.Side.{Side}
 use Rattle.twin_log.specs.declared.side.Side.TheVariants.{Disk, Spare}
 use Rattle.twin_log.specs.declared.fault.LogCause.{LogCause}
 use Rattle.twin_log.specs.declared.fault.LogCause.TheVariants as cause

@@ -1,20 +1,18 @@
 -- The bodies of a log in two files are read one by one.
-use Rattle.std.proofs.Common.{◌≡◌, ℕ, ◌+◌, ◌<◌, ◌≤◌, Bool, true, false, eqb, List, [], ◌∷◌, ◌++◌, length, drop, Option, Some, None, Result, Ok, Err, refl, sym, ap, subst, ◌∙◌, arith, inl, inr}
+use Rattle.std.proofs.Common.{◌≡◌, ℕ, ◌+◌, ◌<◌, ◌≤◌, true, false, eqb, List, [], ◌∷◌, ◌++◌, length, drop, Option, Some, None, Ok, Err, refl, sym, ap, subst, ◌∙◌, arith, inl, inr}
 use Rattle.std.proofs.lemmas.Bool.{cases_Bool}
 use Rattle.std.proofs.lemmas.List.{drop-drop}
-use Rattle.rpc_record.specs.declared.stream.Failed.{Failed}
 use Rattle.store_disk.specs.Disks.{DiskLife}
-use Rattle.gate_log.specs.Logs.{Absent, Closed, Broken, Opens, gate_of, log_from, log_size}
-use Rattle.gate_log.specs.Appends.{FindsGate, KeepsLog, whole_log}
+use Rattle.gate_log.specs.Logs.{Closed, Opens, gate_of, log_from, log_size}
+use Rattle.gate_log.specs.Appends.{FindsGate, whole_log}
 use Rattle.gate_log.specs.declared.reading.Found.{Found}
 use Rattle.gate_log.specs.declared.reading.Found.TheVariants as found
 use Rattle.gate_log.proofs.GateLemmas.{record_gate, record_rest}
 use Rattle.gate_log.proofs.LogLemmas.{first_of, log_by_disk}
-use Rattle.twin_log.specs.declared.fault.LogCause.{LogCause}
 use Rattle.twin_log.specs.declared.fault.LogCause.TheVariants as cause
-use Rattle.twin_log.specs.Twins.{at_side, generation_in}
+use Rattle.twin_log.specs.Twins.{generation_in}
 use Rattle.twin_log.specs.KeptLogs.{HoldsFile, KeptLogState, SaysLog}
-use Rattle.twin_log.specs.LogCalls.{ReadsOn, ReadsTwin, WhereTold}
+use Rattle.twin_log.specs.LogCalls.{ReadsOn, WhereTold}
 
 -- the bodies of a file up to some of those of the log
 record Split (all : List (List ℕ)) (start : ℕ) (done rest : List (List ℕ)) : Type 0 where

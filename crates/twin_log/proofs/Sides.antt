@@ -1,5 +1,5 @@
 -- What is done to the file of a side.
-use Rattle.std.proofs.Common.{◌≡◌, ◌≢◌, ℕ, ◌+◌, ◌^◌, ◌<◌, ◌≤◌, false, eqb, max, List, [], ◌∷◌, ◌++◌, length, Option, Some, None, Result, Ok, Err, refl, sym, ap, subst, ◌∙◌, arith, inl, inr}
+use Rattle.std.proofs.Common.{◌≡◌, ◌≢◌, ℕ, ◌+◌, ◌^◌, ◌<◌, ◌≤◌, false, eqb, max, List, [], ◌∷◌, ◌++◌, Option, Some, None, Result, Ok, Err, refl, sym, ap, subst, ◌∙◌, arith, inl, inr}
 use Rattle.std.specs.Prelude.{◌⊎◌, ◌-◌, IfSome}
 use Rattle.std.proofs.lemmas.Bool.{ne_eqb}
 use Rattle.std.proofs.lemmas.Option.{same_Some}
@@ -8,7 +8,7 @@ use Rattle.store_disk.specs.Disks.{DiskLife, IsImage, LeavesSince, Syncs}
 use Rattle.store_disk.proofs.Leaving.{since_weaker, since_both}
 use Rattle.store_disk.proofs.Images.{sync_leaves}
 use Rattle.gate_log.specs.Logs.{log_of, log_size}
-use Rattle.gate_log.specs.Appends.{HasEither, HoldsLog, IsSynced, whole_log}
+use Rattle.gate_log.specs.Appends.{HasEither, HoldsLog}
 use Rattle.gate_log.specs.Staging.{ClearsDisk, HasBodies, HasSize, IsSameOrEmpty, SealsLog, Stages, StagesMore}
 use Rattle.gate_log.proofs.AppendLemmas.{begins}
 use Rattle.twin_log.specs.declared.side.Side.{Side}
@@ -95,7 +95,7 @@ module _ (old : KeptLogState) (generation start : ℕ) (bodies staged : List (Li
 
 -- ---- a renewal
 
-passed_none : (generation : Option ℕ) (left : List ℕ) → HasBodies [] left → IsPassed generation left
+pub passed_none : (generation : Option ℕ) (left : List ℕ) → HasBodies [] left → IsPassed generation left
 passed_none generation left is = let none : generation_of (log_of left) ≡ None = ap generation_of is in rw none tt
 
 passed_or : (generation : Option ℕ) (bytes : List ℕ) → IsPassed generation bytes → (left : List ℕ) → IsSameOrEmpty bytes left → IsPassed generation left
@@ -150,7 +150,7 @@ module _ (old : KeptLogState) (says : TwinLog) (disk spare : Option DiskLife) (s
   pub begin_fails : (answer : Result (Unit {0}) Failed) (e : Failed) → answer ≡ Err e → (new : KeptLogState) → BeginsRenewal old disk spare says answer new disk2 spare2
   begin_fails answer e is new = record { crash = begin_crash; kept = λ y ok. absurd (cc (is, ok)) }
 
-  pub begin_done : (at : ℕ) → result ≡ Ok at → body ≡ generation_body (next_generation old.generation) → (y : Unit {0}) → BeginsRenewal old disk spare says (Ok y) (record old { renewed = Some at }) disk2 spare2
+  pub begin_done : (at : ℕ) → result ≡ Ok at → body ≡ generation_body (next_generation old.generation) → (y : Unit {0}) → BeginsRenewal {E = Failed} old disk spare says (Ok y) (record old { renewed = Some at }) disk2 spare2
   begin_done at is body_is y = record {
     crash = begin_crash;
     kept = λ z ok. record {
@@ -179,7 +179,7 @@ module _ (old : KeptLogState) (says : TwinLog) (put : List (List ℕ)) (disk spa
   pub put_fails : (answer : Result (Unit {0}) Failed) (e : Failed) → answer ≡ Err e → (new : KeptLogState) → PutsMore old disk spare says put body answer new disk' spare'
   put_fails answer e is new = record { crash = put_crash; kept = λ y ok. absurd (cc (is, ok)) }
 
-  pub put_done : (at : ℕ) → result ≡ Ok at → from ≤ at → (y : Unit {0}) → PutsMore old disk spare says put body (Ok y) (record old { renewed = Some at }) disk' spare'
+  pub put_done : (at : ℕ) → result ≡ Ok at → from ≤ at → (y : Unit {0}) → PutsMore {E = Failed} old disk spare says put body (Ok y) (record old { renewed = Some at }) disk' spare'
   put_done at is higher y = record {
     crash = put_crash;
     kept = λ z ok. record {
@@ -259,7 +259,7 @@ module _ (old : KeptLogState) (says : TwinLog) (put : List (List ℕ)) (disk spa
   abbrev renewed_log : KeptLogState
   renewed_log = record { side = opposite old.side; generation = Some (next_generation old.generation); size = at + 1; end = at; at = at; next = at; place = 0; renewed = None }
 
-  pub end_done : (x : Unit {0}) → result ≡ Ok x → (y : Unit {0}) → EndsRenewal old disk spare put (Ok y) renewed_log disk' spare'
+  pub end_done : (x : Unit {0}) → result ≡ Ok x → (y : Unit {0}) → EndsRenewal {E = Failed} old disk spare put (Ok y) renewed_log disk' spare'
   end_done x is y = record {
     crash = end_crash;
     kept = λ z ok. record {

@@ -1,5 +1,5 @@
 -- A log in two files that is open: how it stands on the two disks.
-use Rattle.std.specs.Prelude.{⊤, ◌≡◌, ◌≢◌, ℕ, ◌+◌, ◌-◌, ◌^◌, ◌<◌, ◌≤◌, true, List, [], ◌∷◌, Option, Some, None, IfSome}
+use Rattle.std.specs.Prelude.{⊤, ◌≡◌, ◌≢◌, ℕ, ◌+◌, ◌-◌, ◌^◌, ◌<◌, ◌≤◌, Bool, true, false, if◌then◌else◌, is_none, is_some, nat_le, nat_lt, List, [], ◌∷◌, Option, Some, None, IfSome}
 use Rattle.store_disk.specs.Disks.{DiskLife, synced_state}
 use Rattle.gate_log.specs.Logs.{log_of}
 use Rattle.gate_log.specs.Appends.{HoldsLog, IsSynced, whole_log}
@@ -33,6 +33,19 @@ pub record IsOrdered (log : KeptLogState) : Type 0 where
 -- of two files that have none: a renewal goes into the disk
 abbrev pub new_pair : KeptLogState
 new_pair = record { side = Spare; generation = None; size = 0; end = 0; at = 0; next = 0; place = 0; renewed = None }
+
+-- a record may be appended: there is a generation, no renewal is under way, and all bodies were read
+abbrev pub can_append : KeptLogState → Bool
+can_append log = if is_none log.generation then false else (if is_some log.renewed then false else nat_le log.end log.next)
+
+-- a generation has one behind it
+abbrev pub has_next : Option ℕ → Bool
+has_next None = true
+has_next (Some generation) = nat_lt generation (2 ^ 64 - 1)
+
+-- a renewal may begin: none is under way
+abbrev pub can_begin : KeptLogState → Bool
+can_begin log = if is_some log.renewed then false else has_next log.generation
 
 -- ---- one file
 

@@ -4,3 +4,5 @@ pub mod Causes
 pub mod KeptLogs
 pub mod LogCalls
 pub mod Opening
+pub mod GateLogs
+pub mod LogErrors

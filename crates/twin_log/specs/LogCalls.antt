@@ -1,5 +1,5 @@
 -- What the calls on a log in two files do.
-use Rattle.std.specs.Prelude.{⊤, ◌≡◌, ◌⊎◌, ℕ, ◌+◌, List, [], ◌∷◌, ◌++◌, length, Bool, true, false, Option, Some, None, Result, Ok, Err}
+use Rattle.std.specs.Prelude.{⊤, ◌≡◌, ◌⊎◌, ℕ, ◌+◌, List, [], ◌∷◌, ◌++◌, length, max, Bool, true, false, Option, Some, None, Result, Ok, Err}
 use Rattle.rpc_record.specs.Stream.{one_more}
 use Rattle.rpc_record.specs.declared.stream.Failed.{Failed}
 use Rattle.rpc_record.specs.declared.stream.Failed.TheVariants as failed
@@ -129,14 +129,27 @@ pub record SealsTwin (old : KeptLogState) (disk spare : Option DiskLife) (genera
   pub crash : OnSide old.side disk spare disk' spare' (λ left. IsFileOf generation start bodies left ⊎ IsFileOf generation start (bodies ++ staged) left)
   pub kept : (x : Unit {0}) → result ≡ Ok x → StandsTwin new (Has generation start (bodies ++ staged)) disk' spare'
 
+-- Appending a body: a crash leaves the log with it or without it; and once it is done, with it.
+pub record AppendsTwin {E : Type 0} (old : KeptLogState) (disk spare : Option DiskLife) (generation start : ℕ) (bodies : List (List ℕ)) (body : List ℕ) (result : Result (Unit {0}) E) (new : KeptLogState) (disk' spare' : Option DiskLife) : Type 0 where
+  pub crash : OnSide old.side disk spare disk' spare' (λ left. IsFileOf generation start bodies left ⊎ IsFileOf generation start (bodies ++ body ∷ []) left)
+  pub kept : (x : Unit {0}) → result ≡ Ok x → StandsTwin new (Has generation start (bodies ++ body ∷ [])) disk' spare'
+
+-- the numbers of a log behind which a record with a body of so many bytes was written, which waits
+abbrev pub staged_log : KeptLogState → ℕ → KeptLogState
+staged_log log count = record log { at = log.at + 5 + count; size = max log.size (log.at + 6 + count) }
+
+-- those of one whose waiting records became part of it
+abbrev pub sealed_log : KeptLogState → KeptLogState
+sealed_log log = record log { end = log.at; next = log.at }
+
 -- ---- a renewal
 
 -- It has begun, and has no body yet; a crash leaves the other file passed.
-pub record BeginsRenewal (old : KeptLogState) (disk spare : Option DiskLife) (says : TwinLog) (result : Result (Unit {0}) Failed) (new : KeptLogState) (disk' spare' : Option DiskLife) : Type 0 where
+pub record BeginsRenewal {E : Type 0} (old : KeptLogState) (disk spare : Option DiskLife) (says : TwinLog) (result : Result (Unit {0}) E) (new : KeptLogState) (disk' spare' : Option DiskLife) : Type 0 where
   pub crash : OnSide (opposite old.side) disk spare disk' spare' (IsPassed old.generation)
   pub kept : (x : Unit {0}) → result ≡ Ok x → RenewsTwin new says [] disk' spare'
 
-pub record PutsMore (old : KeptLogState) (disk spare : Option DiskLife) (says : TwinLog) (put : List (List ℕ)) (body : List ℕ) (result : Result (Unit {0}) Failed) (new : KeptLogState) (disk' spare' : Option DiskLife) : Type 0 where
+pub record PutsMore {E : Type 0} (old : KeptLogState) (disk spare : Option DiskLife) (says : TwinLog) (put : List (List ℕ)) (body : List ℕ) (result : Result (Unit {0}) E) (new : KeptLogState) (disk' spare' : Option DiskLife) : Type 0 where
   pub crash : OnSide (opposite old.side) disk spare disk' spare' (IsPassed old.generation)
   pub kept : (x : Unit {0}) → result ≡ Ok x → RenewsTwin new says (put ++ body ∷ []) disk' spare'
 
@@ -144,7 +157,16 @@ pub record PutsMore (old : KeptLogState) (disk spare : Option DiskLife) (says : 
 abbrev pub renewed_place : ℕ → ℕ
 renewed_place generation = 5 + length (generation_body generation)
 
+-- The numbers of a log that took another's place: all of its bodies count as read.
+pub record HasRenewed (old new : KeptLogState) : Type 0 where
+  pub side : new.side ≡ opposite old.side
+  pub generation : new.generation ≡ Some (next_generation old.generation)
+  pub size : new.size ≡ new.end + 1
+  pub next : new.next ≡ new.end
+  pub place : new.place ≡ 0
+  pub none_renews : new.renewed ≡ None
+
 -- The other file has the log, with the next generation; a crash leaves that file passed, or with the new log.
-pub record EndsRenewal (old : KeptLogState) (disk spare : Option DiskLife) (put : List (List ℕ)) (result : Result (Unit {0}) Failed) (new : KeptLogState) (disk' spare' : Option DiskLife) : Type 0 where
+pub record EndsRenewal {E : Type 0} (old : KeptLogState) (disk spare : Option DiskLife) (put : List (List ℕ)) (result : Result (Unit {0}) E) (new : KeptLogState) (disk' spare' : Option DiskLife) : Type 0 where
   pub crash : OnSide (opposite old.side) disk spare disk' spare' (λ left. IsPassed old.generation left ⊎ IsFileOf (next_generation old.generation) (renewed_place (next_generation old.generation)) put left)
   pub kept : (x : Unit {0}) → result ≡ Ok x → StandsTwin new (Has (next_generation old.generation) (renewed_place (next_generation old.generation)) put) disk' spare'

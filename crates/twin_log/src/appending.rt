@@ -1,8 +1,9 @@
 //! Appending to a log in two files.
 
 ghost use Rattle.std.specs.Prelude.{◌≡◌, ◌≢◌, ◌+◌, ◌<◌, ◌≤◌, ◌-◌, ◌^◌, List, ℕ, [], OnOk, IfOk, length, max};
-ghost use Rattle.twin_log.specs.KeptLogs.{WaitsTwin};
-ghost use Rattle.twin_log.specs.LogCalls.{CountsTwins, SealsTwin, StagesOn, SealsOn, WaitsMore};
+ghost use Rattle.twin_log.specs.Twins.{Has};
+ghost use Rattle.twin_log.specs.KeptLogs.{StandsTwin, WaitsTwin};
+ghost use Rattle.twin_log.specs.LogCalls.{AppendsTwin, CountsTwins, SealsTwin, StagesOn, SealsOn, WaitsMore, sealed_log, staged_log};
 
 use crate::kept_log::KeptLog;
 use crate::side::Side;
@@ -61,6 +62,8 @@ impl KeptLog {
     ) -> Result<(), Failed>
         ensures stages { (generation start : ℕ) (bodies staged : List (List ℕ)) → WaitsTwin self.old generation start bodies staged (D.told disk.old) (D.told spare.old) → WaitsMore self.old (D.told disk.old) (D.told spare.old) generation start bodies staged body.now result self.new (D.told disk.new) (D.told spare.new) }
         ensures length { OnOk result (self.new.size ≡ max self.old.size (self.old.at + 6 + length body.now)) }
+        ensures moves { OnOk result (self.new ≡ staged_log self.old (length body.now)) }
+        ensures waits { OnOk result (self.new.end < self.new.at) }
         ensures faults { CountsTwins result (D.faults disk.old) (D.faults spare.old) (D.faults disk.new) (D.faults spare.new) }
     {
         let at = stage_on(self.side, disk, spare, self.end, self.at, body)?;
@@ -76,6 +79,7 @@ impl KeptLog {
     pub fn seal<D: Disk>(&mut self, disk: &mut D, spare: &mut D) -> Result<(), Failed>
         ensures seals { (generation start : ℕ) (bodies staged : List (List ℕ)) → WaitsTwin self.old generation start bodies staged (D.told disk.old) (D.told spare.old) → staged ≢ [] → SealsTwin self.old (D.told disk.old) (D.told spare.old) generation start bodies staged result self.new (D.told disk.new) (D.told spare.new) }
         ensures length { self.new.size ≡ self.old.size }
+        ensures moves { OnOk result (self.old.end < self.old.at → self.new ≡ sealed_log self.old) }
         ensures faults { CountsTwins result (D.faults disk.old) (D.faults spare.old) (D.faults disk.new) (D.faults spare.new) }
     {
         if self.at == self.end {
@@ -85,5 +89,23 @@ impl KeptLog {
         self.end = self.at;
         self.next = self.at;
         Ok(())
+    }
+
+    /// Appends a body, in four calls of its disk: a crash leaves the log with it or without it, and once this is done with it. All bodies
+    /// count as read. It takes no memory.
+    ///
+    /// Behind an error the log is to be opened anew.
+    pub fn append<D: Disk>(
+        &mut self,
+        disk: &mut D,
+        spare: &mut D,
+        body: &Gated,
+    ) -> Result<(), Failed>
+        ensures appends { (generation start : ℕ) (bodies : List (List ℕ)) → StandsTwin self.old (Has generation start bodies) (D.told disk.old) (D.told spare.old) → AppendsTwin self.old (D.told disk.old) (D.told spare.old) generation start bodies body.now result self.new (D.told disk.new) (D.told spare.new) }
+        ensures moves { OnOk result (self.new ≡ sealed_log (staged_log self.old (length body.now))) }
+        ensures faults { CountsTwins result (D.faults disk.old) (D.faults spare.old) (D.faults disk.new) (D.faults spare.new) }
+    {
+        self.stage(disk, spare, body)?;
+        self.seal(disk, spare)
     }
 }

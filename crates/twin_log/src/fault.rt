@@ -31,3 +31,17 @@ impl From<Failed> for LogCause {
         }
     }
 }
+
+/// Why a call on a log was not done.
+#[derive(Clone, Copy, Debug, PartialEq, Eq, Error)]
+pub enum LogError {
+    /// A disk failed in this call: the log has what it wrote, or not. It is to be opened again.
+    #[error("a disk failed")]
+    Disk,
+    /// A disk failed in an earlier call. The log is to be opened again.
+    #[error("a disk failed before")]
+    Broken,
+    /// Memory was wanted. Where it was a disk that wanted it, the log is to be opened again.
+    #[error("memory was wanted")]
+    NoMemory,
+}

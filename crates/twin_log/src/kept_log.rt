@@ -1,10 +1,10 @@
 //! A log in two files that is open, on disks that are handed to each call.
 
-ghost use Rattle.std.specs.Prelude.{◌≡◌, ◌≢◌, ◌+◌, ◌-◌, ◌^◌, ◌<◌, ◌≤◌, [], ◌++◌, List, ℕ, IfOk, OnOk, None, Some, length, true, Ok, nat_le};
+ghost use Rattle.std.specs.Prelude.{◌≡◌, ◌≢◌, ◌+◌, ◌-◌, ◌^◌, ◌<◌, ◌≤◌, [], ◌++◌, List, ℕ, IfOk, OnOk, OnErr, is_some, None, Some, length, true, Ok, nat_le};
 ghost use Rattle.rpc_record.specs.Stream.{counted};
 ghost use Rattle.gate_log.specs.Appends.{FindsGate, LiesWithin};
 ghost use Rattle.twin_log.specs.Twins.{at_side};
-ghost use Rattle.twin_log.specs.KeptLogs.{new_pair};
+ghost use Rattle.twin_log.specs.KeptLogs.{can_append, can_begin, new_pair};
 ghost use Rattle.twin_log.specs.Opening.{HeadOf, OpensSide, head_with};
 ghost use Rattle.twin_log.specs.LogCalls.{CountsTwins, FindsTwin, IsSyncedTold, LeavesAsBefore, OpensTwin, ReadsTwin, cause_counted, plain_cause};
 
@@ -241,6 +241,7 @@ impl KeptLog {
     ) -> Result<bool, LogCause>
         ensures reads { ReadsTwin self.old (D.told disk.old) (D.told spare.old) result into.new.items self.new }
         ensures on { result ≡ Ok true → self.old.next < self.new.next }
+        ensures failed { OnErr result (self.new ≡ self.old) }
         ensures within { self.new.next ≤ self.new.size }
         ensures size { self.new.size ≡ self.old.size }
         ensures same { D.told disk.new ≡ D.told disk.old }
@@ -288,5 +289,38 @@ impl KeptLog {
         ensures { result ≡ nat_le self.now.end self.now.next }
     {
         self.next >= self.end
+    }
+
+    /// A record may be appended: there is a generation, no renewal is under way, and all bodies were read.
+    pub fn can_append(&self) -> bool
+        ensures { result ≡ can_append self.now }
+    {
+        if self.generation.is_none() {
+            return false;
+        }
+        if self.renewed.is_some() {
+            return false;
+        }
+        self.next >= self.end
+    }
+
+    /// A renewal may begin: none is under way, and the generation has one behind it.
+    pub fn can_begin(&self) -> bool
+        ensures { result ≡ can_begin self.now }
+    {
+        if self.renewed.is_some() {
+            return false;
+        }
+        match self.generation {
+            None => true,
+            Some(generation) => generation < u64::MAX,
+        }
+    }
+
+    /// A renewal is under way.
+    pub fn is_renewing(&self) -> bool
+        ensures { result ≡ is_some self.now.renewed }
+    {
+        self.renewed.is_some()
     }
 }

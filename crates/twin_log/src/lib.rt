@@ -5,9 +5,11 @@ mod appending;
 mod fault;
 mod generation;
 mod kept_log;
+mod on_disks;
 mod renewing;
 mod side;
 
-pub use fault::LogCause;
+pub use fault::{LogCause, LogError};
 pub use kept_log::KeptLog;
+pub use on_disks::{GateLog, LogFault};
 pub use side::Side;

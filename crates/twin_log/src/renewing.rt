@@ -3,7 +3,7 @@
 ghost use Rattle.std.specs.Prelude.{◌≡◌, ◌≢◌, ◌+◌, ◌<◌, ◌-◌, ◌^◌, List, ℕ, Some, None, OnOk, IfSome};
 ghost use Rattle.twin_log.specs.Twins.{TwinLog, at_side, opposite};
 ghost use Rattle.twin_log.specs.KeptLogs.{RenewsTwin, StandsTwin, next_generation};
-ghost use Rattle.twin_log.specs.LogCalls.{BeginsRenewal, ClearsOn, CountsTwins, EndsRenewal, PutsMore};
+ghost use Rattle.twin_log.specs.LogCalls.{BeginsRenewal, ClearsOn, CountsTwins, EndsRenewal, HasRenewed, PutsMore};
 
 use crate::appending::{seal_on, stage_on};
 use crate::generation::generation_record;
@@ -44,6 +44,7 @@ impl KeptLog {
         requires room { IfSome self.old.generation (λ generation. generation < 2 ^ 64 - 1) }
         ensures begins { (says : TwinLog) → StandsTwin self.old says (D.told disk.old) (D.told spare.old) → BeginsRenewal self.old (D.told disk.old) (D.told spare.old) says result self.new (D.told disk.new) (D.told spare.new) }
         ensures renews { OnOk result (self.new.renewed ≢ None) }
+        ensures keeps { self.new ≡ record self.old { renewed = self.new.renewed } }
         ensures faults { CountsTwins result (D.faults disk.old) (D.faults spare.old) (D.faults disk.new) (D.faults spare.new) }
     {
         let Ok(record) = generation_record(self.alloc, generation_behind(self.generation)) else {
@@ -58,15 +59,11 @@ impl KeptLog {
     /// Writes the next body of the new log, which waits. It takes no memory.
     ///
     /// Behind an error the log is to be opened anew.
-    pub fn put<D: Disk>(
-        &mut self,
-        disk: &mut D,
-        spare: &mut D,
-        body: &Gated,
-    ) -> Result<(), Failed>
+    pub fn put<D: Disk>(&mut self, disk: &mut D, spare: &mut D, body: &Gated) -> Result<(), Failed>
         requires { self.old.renewed ≢ None }
         ensures puts { (says : TwinLog) (put : List (List ℕ)) → RenewsTwin self.old says put (D.told disk.old) (D.told spare.old) → PutsMore self.old (D.told disk.old) (D.told spare.old) says put body.now result self.new (D.told disk.new) (D.told spare.new) }
         ensures renews { OnOk result (self.new.renewed ≢ None) }
+        ensures keeps { self.new ≡ record self.old { renewed = self.new.renewed } }
         ensures faults { CountsTwins result (D.faults disk.old) (D.faults spare.old) (D.faults disk.new) (D.faults spare.new) }
     {
         let at = match self.renewed {
@@ -84,6 +81,7 @@ impl KeptLog {
     pub fn end<D: Disk>(&mut self, disk: &mut D, spare: &mut D) -> Result<(), Failed>
         requires { self.old.renewed ≢ None }
         ensures ends { (says : TwinLog) (put : List (List ℕ)) → RenewsTwin self.old says put (D.told disk.old) (D.told spare.old) → EndsRenewal self.old (D.told disk.old) (D.told spare.old) put result self.new (D.told disk.new) (D.told spare.new) }
+        ensures renewed { OnOk result (HasRenewed self.old self.new) }
         ensures faults { CountsTwins result (D.faults disk.old) (D.faults spare.old) (D.faults disk.new) (D.faults spare.new) }
     {
         let at = match self.renewed {

@@ -1,4 +1,4 @@
-use Rattle.std.proofs.Common.{◌<◌, ℕ, Ok, sym, ap, subst, ◌∙◌, arith}
+use Rattle.std.proofs.Common.{◌<◌, Ok, sym, ap, subst, ◌∙◌, arith}
 use Rattle.twin_log.specs.declared.kept_log.FileHead.{FileHead}
 use Rattle.twin_log.specs.Opening.{HeadOf, head_with}
 use Rattle.twin_log.proofs.Heads.{closed_head, broken_head, opens_head}

@@ -1,6 +1,5 @@
-use Rattle.std.proofs.Common.{◌<◌, ◌^◌, ◌≡◌, ◌≢◌, ℕ, Option, None, Some, Ok, Err, refl, sym, subst, ◌∙◌, arith}
+use Rattle.std.proofs.Common.{Ok, Err, refl}
 use Rattle.std.proofs.lemmas.Result.{err_from_is_err_and}
-use Rattle.twin_log.specs.KeptLogs.{next_generation}
 use Rattle.twin_log.proofs.Sides.{end_fails, end_done, next_fits, is_some}
 use Rattle.twin_log.proofs.kept_log.KeptLog.end.Goals as goal
 
