@@ -5,6 +5,7 @@ use part_entries::EntryRows;
 use part_grants::{LayoutsRows, ResultsRows};
 use part_mds::{FileRows, OpensRows, OperationRows};
 use part_mds_bytes::{MdsReceiveRows, RecallCallsRows};
+use part_log::GateLogRows;
 use part_messages::MessageRows;
 use part_nodes::{ClientRows, DataFileRows, MdsRows, ServerRows, StoreRows};
 use part_pages::PagesRows;
@@ -38,6 +39,7 @@ fn on_state<V: Player>(alloc: Global, kind: &str, player: &mut V) -> bool {
         "fence" => on(player, FenceRows::new()),
         "file" => on(player, FileRows::new()),
         "filestate" => on(player, FileStateRows::new()),
+        "gatelog" => on(player, GateLogRows::new(alloc)),
         "mdsread" => on(player, MdsReadRows::new()),
         "mdswrite" => on(player, MdsWriteRows::new()),
         "mirrors" => on(player, MirrorsRows::new()),
