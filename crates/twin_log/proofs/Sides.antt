@@ -1,22 +1,23 @@
 -- What is done to the file of a side.
-use Rattle.std.proofs.Common.{◌≡◌, ◌≢◌, ℕ, ◌+◌, ◌^◌, ◌<◌, ◌≤◌, false, eqb, max, List, [], ◌∷◌, ◌++◌, Option, Some, None, Result, Ok, Err, refl, sym, ap, subst, ◌∙◌, arith, inl, inr}
+use Rattle.std.proofs.Common.{◌≡◌, ◌≢◌, ℕ, ◌+◌, ◌^◌, ◌<◌, ◌≤◌, true, false, eqb, max, List, [], ◌∷◌, ◌++◌, length, Option, Some, None, Result, Ok, Err, refl, sym, ap, subst, ◌∙◌, arith, inl, inr}
 use Rattle.std.specs.Prelude.{◌⊎◌, ◌-◌, IfSome}
-use Rattle.std.proofs.lemmas.Bool.{ne_eqb}
+use Rattle.std.proofs.lemmas.Bool.{ne_eqb, lt-ltb, le-ltb}
 use Rattle.std.proofs.lemmas.Option.{same_Some}
 use Rattle.rpc_record.specs.declared.stream.Failed.{Failed}
 use Rattle.store_disk.specs.Disks.{DiskLife, IsImage, LeavesSince, Syncs}
-use Rattle.store_disk.proofs.Leaving.{since_weaker, since_both}
+use Rattle.store_disk.proofs.Leaving.{since_weaker, since_both, since_none}
 use Rattle.store_disk.proofs.Images.{sync_leaves}
 use Rattle.gate_log.specs.Logs.{log_of, log_size}
 use Rattle.gate_log.specs.Appends.{HasEither, HoldsLog}
 use Rattle.gate_log.specs.Staging.{ClearsDisk, HasBodies, HasSize, IsSameOrEmpty, SealsLog, Stages, StagesMore}
 use Rattle.gate_log.proofs.AppendLemmas.{begins}
+use Rattle.gate_log.proofs.StageLemmas.{same_bodies, waits_in}
 use Rattle.twin_log.specs.declared.side.Side.{Side}
 use Rattle.twin_log.specs.declared.side.Side.TheVariants.{Disk, Spare}
-use Rattle.twin_log.specs.Twins.{TwinLog, New, Has, Bad, at_side, generation_body, generation_of, opposite}
+use Rattle.twin_log.specs.Twins.{LogHolder, On, TwinLog, New, Has, Bad, at_side, file_says, first_place, generation_body, generation_of, log_holder, opposite, says_by, twin_log, without_generation}
 use Rattle.twin_log.specs.KeptLogs.{HoldsFile, HoldsSaid, IsBelow, IsFileOf, IsPassed, KeptLogState, RenewsTwin, SaysLog, StandsPassed, StandsTwin, WaitsTwin, generation_said, next_generation}
-use Rattle.twin_log.specs.LogCalls.{BeginsRenewal, ClearsOn, EndsRenewal, LeavesAsBefore, OnSide, PutsMore, SealsOn, SealsTwin, StagesOn, renewed_place}
-use Rattle.twin_log.proofs.Files.{says_more, generation_again}
+use Rattle.twin_log.specs.LogCalls.{BeginsRenewal, ClearsOn, EndsRenewal, LeavesAsBefore, OnSide, PutsMore, SealsOn, SealsTwin, StagesOn, TellAsBefore, TellsAsBefore, renewed_place}
+use Rattle.twin_log.proofs.Files.{says_more, generation_again, generation_some}
 
 -- ---- a sync
 
@@ -110,12 +111,12 @@ clear_holds : (generation : Option ℕ) (old : Option DiskLife) (x : Unit {0}) (
 clear_holds generation None x new passed clears = (subst (λ (t : Option DiskLife). HoldsLog t [] 0) (sym clears) tt, subst (λ (t : Option DiskLife). HasSize t 1) (sym clears) tt)
 clear_holds generation (Some life) x new passed clears = ((clears passed.0).kept x refl, (clears passed.0).size x refl)
 
-at_twice : {X : Type 0} (side : Side) (x y : X) → at_side (opposite (opposite side)) x y ≡ at_side side x y
+pub at_twice : {X : Type 0} (side : Side) (x y : X) → at_side (opposite (opposite side)) x y ≡ at_side side x y
 at_twice Disk x y = refl
 at_twice Spare x y = refl
 
 -- the file of the log's side, where nothing was done but to the other
-own_same : (side : Side) (disk spare disk' spare' : Option DiskLife) → at_side (opposite (opposite side)) disk' spare' ≡ at_side (opposite (opposite side)) disk spare → at_side side disk' spare' ≡ at_side side disk spare
+pub own_same : (side : Side) (disk spare disk' spare' : Option DiskLife) → at_side (opposite (opposite side)) disk' spare' ≡ at_side (opposite (opposite side)) disk spare → at_side side disk' spare' ≡ at_side side disk spare
 own_same side disk spare disk' spare' same = sym (at_twice side disk' spare') ∙ same ∙ at_twice side disk spare
 
 holds_with : (says : TwinLog) (log : KeptLogState) (renewed : Option ℕ) (told : Option DiskLife) → HoldsSaid says log told → HoldsSaid says (record log { renewed = renewed }) told
@@ -301,3 +302,104 @@ next_fits (Some g) room = omega (arith, room)
 
 pub is_some : (renewed : Option ℕ) (at : ℕ) → renewed ≡ Some at → renewed ≢ None
 is_some renewed at is none = absurd (cc (is, none))
+
+-- ---- what two files say together
+
+pub file_passed : (generation start : ℕ) (bodies : List (List ℕ)) (next : ℕ) (left : List ℕ) → IsFileOf generation start bodies left → generation < next → IsPassed (Some next) left
+file_passed generation start bodies next left is less =
+    let here : generation_of (log_of left) ≡ Some generation = ap generation_of is.log ∙ is.says.generation_is in
+    subst (IsBelow (Some next)) (sym here) less
+
+disk_holds : (g : ℕ) (other : Option ℕ) → IsBelow (Some g) other → log_holder (Some g) other ≡ On Disk
+disk_holds g None below = refl
+disk_holds g (Some h) below =
+    let ne : eqb g h ≡ false = ne_eqb g h (λ e. absurd (omega (arith, e, below))) in
+    let less = lt-ltb h g below in
+    rw (ne, less) refl
+
+spare_holds : (g : ℕ) (other : Option ℕ) → IsBelow (Some g) other → log_holder other (Some g) ≡ On Spare
+spare_holds g None below = refl
+spare_holds g (Some h) below =
+    let ne : eqb h g ≡ false = ne_eqb h g (λ e. absurd (omega (arith, e, below))) in
+    let more = le-ltb g h (omega (arith, below)) in
+    rw (ne, more) refl
+
+file_has : (generation start : ℕ) (bodies : List (List ℕ)) (left : List ℕ) → IsFileOf generation start bodies left → file_says (log_of left) ≡ Has generation start bodies
+file_has generation start bodies left is =
+    let first = generation_some is.all true generation is.says.generation_is refl in
+    ap file_says is.log ∙ ap (λ (g : ℕ). Has g (first_place is.all) (without_generation is.all)) first.1 ∙ ap (λ (n : ℕ). Has generation n (without_generation is.all)) is.says.start_is ∙ ap (Has generation start) is.says.bodies_are
+
+-- the one with the log says it, where the other one is passed
+pub says_own : (side : Side) (generation start : ℕ) (bodies : List (List ℕ)) (disk spare : List ℕ) → IsFileOf generation start bodies (at_side side disk spare) → IsPassed (Some generation) (at_side (opposite side) disk spare) → twin_log disk spare ≡ Has generation start bodies
+says_own Disk generation start bodies disk spare own passed =
+    let here : generation_of (log_of disk) ≡ Some generation = ap generation_of own.log ∙ own.says.generation_is in
+    let held : log_holder (generation_of (log_of disk)) (generation_of (log_of spare)) ≡ On Disk = rw here (disk_holds generation (generation_of (log_of spare)) passed) in
+    ap (λ (h : LogHolder). says_by h (log_of disk) (log_of spare)) held ∙ file_has generation start bodies disk own
+says_own Spare generation start bodies disk spare own passed =
+    let here : generation_of (log_of spare) ≡ Some generation = ap generation_of own.log ∙ own.says.generation_is in
+    let held : log_holder (generation_of (log_of disk)) (generation_of (log_of spare)) ≡ On Spare = rw here (spare_holds generation (generation_of (log_of disk)) passed) in
+    ap (λ (h : LogHolder). says_by h (log_of disk) (log_of spare)) held ∙ file_has generation start bodies spare own
+
+-- neither has a record
+pub says_new : (disk spare : List ℕ) → IsPassed None disk → IsPassed None spare → twin_log disk spare ≡ New
+says_new disk spare first second =
+    let one = none_of (generation_of (log_of disk)) first in
+    let other = none_of (generation_of (log_of spare)) second in
+    rw (one, other) refl
+  where
+    none_of : (g : Option ℕ) → IsBelow None g → g ≡ None
+    none_of None below = refl
+    none_of (Some h) below = absurd below
+
+-- ---- disks that tell nothing
+
+tells_same : (old new : Option DiskLife) → new ≡ old → TellsAsBefore old new
+tells_same None new same = same
+tells_same (Some life) new same = tt
+
+tells_by : (old new : Option DiskLife) → (old ≡ None → new ≡ None) → TellsAsBefore old new
+tells_by None new h = h refl
+tells_by (Some life) new h = tt
+
+tell_on : (side : Side) (disk spare disk' spare' : Option DiskLife) → (at_side side disk spare ≡ None → at_side side disk' spare' ≡ None) → at_side (opposite side) disk' spare' ≡ at_side (opposite side) disk spare → TellAsBefore disk spare disk' spare'
+tell_on Disk disk spare disk' spare' own other = (tells_by disk disk' own, tells_same spare spare' other)
+tell_on Spare disk spare disk' spare' own other = (tells_same disk disk' other, tells_by spare spare' own)
+
+pub stages_tell : (side : Side) (disk spare : Option DiskLife) (end at : ℕ) (body : List ℕ) (result : Result ℕ Failed) (disk' spare' : Option DiskLife) → StagesOn side disk spare end at body result disk' spare' → TellAsBefore disk spare disk' spare'
+stages_tell side disk spare end at body result disk' spare' on = tell_on side disk spare disk' spare' (λ none. by_none (at_side side disk spare) none (on.0 [] [])) on.1
+  where
+    by_none : (told : Option DiskLife) → told ≡ None → (Stages told [] [] end at → StagesMore told [] [] body end result (at_side side disk' spare')) → at_side side disk' spare' ≡ None
+    by_none None none h = (h tt).crash
+    by_none (Some life) none h = absurd (cc (none))
+
+pub seals_tell : (side : Side) (disk spare : Option DiskLife) (end at : ℕ) (result : Result (Unit {0}) Failed) (disk' spare' : Option DiskLife) → SealsOn side disk spare end at result disk' spare' → TellAsBefore disk spare disk' spare'
+seals_tell side disk spare end at result disk' spare' on = tell_on side disk spare disk' spare' (λ none. by_none (at_side side disk spare) none (on.0 [] [])) on.1
+  where
+    by_none : (told : Option DiskLife) → told ≡ None → (Stages told [] [] end at → SealsLog told [] [] at result (at_side side disk' spare')) → at_side side disk' spare' ≡ None
+    by_none None none h = (h tt).crash
+    by_none (Some life) none h = absurd (cc (none))
+
+pub clears_tell : (side : Side) (disk spare : Option DiskLife) (result : Result (Unit {0}) Failed) (disk' spare' : Option DiskLife) → ClearsOn side disk spare result disk' spare' → TellAsBefore disk spare disk' spare'
+clears_tell side disk spare result disk' spare' on = tell_on side disk spare disk' spare' (λ none. by_none (at_side side disk spare) none on.0) on.1
+  where
+    by_none : (told : Option DiskLife) → told ≡ None → ClearsDisk told result (at_side side disk' spare') → at_side side disk' spare' ≡ None
+    by_none None none h = h
+    by_none (Some life) none h = absurd (cc (none))
+
+tells_both : (a b c : Option DiskLife) → TellsAsBefore a b → TellsAsBefore b c → TellsAsBefore a c
+tells_both None b c first second = subst (λ (t : Option DiskLife). TellsAsBefore t c) first second
+tells_both (Some life) b c first second = tt
+
+pub tell_both : (disk spare disk1 spare1 disk2 spare2 : Option DiskLife) → TellAsBefore disk spare disk1 spare1 → TellAsBefore disk1 spare1 disk2 spare2 → TellAsBefore disk spare disk2 spare2
+tell_both disk spare disk1 spare1 disk2 spare2 first second = (tells_both disk disk1 disk2 first.0 second.0, tells_both spare spare1 spare2 first.1 second.1)
+
+-- what crashes leave of the other file while a renewal stands
+pub renews_now : (log : KeptLogState) (says : TwinLog) (put : List (List ℕ)) (disk spare : Option DiskLife) → RenewsTwin log says put disk spare
+    → LeavesSince (at_side (opposite log.side) disk spare) (at_side (opposite log.side) disk spare) (IsPassed log.generation)
+renews_now log says put disk spare renews = by_told (at_side (opposite log.side) disk spare) renews.target
+  where
+    by_told : (told : Option DiskLife) → Stages told [] (generation_body (next_generation log.generation) ∷ put) 0 renews.renewed → LeavesSince told told (IsPassed log.generation)
+    by_told None waits = refl
+    by_told (Some life) waits =
+        let has = (waits_in life [] (generation_body (next_generation log.generation) ∷ put) 0 renews.renewed waits).has in
+        since_none (IsPassed log.generation) (Some life) (λ left image. passed_none log.generation left (same_bodies life.now.seen [] 0 has left (waits.left left image)))

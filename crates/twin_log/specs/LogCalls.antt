@@ -19,6 +19,14 @@ CountsTwins (Ok x) disk spare disk' spare' = (disk' ≡ disk) × (spare' ≡ spa
 CountsTwins (Err failed.Fault) disk spare disk' spare' = ((disk' ≡ one_more disk) × (spare' ≡ spare)) ⊎ ((disk' ≡ disk) × (spare' ≡ one_more spare))
 CountsTwins (Err failed.NoMemory) disk spare disk' spare' = (disk' ≡ disk) × (spare' ≡ spare)
 
+-- disks that tell nothing tell nothing later
+abbrev pub TellsAsBefore : Option DiskLife → Option DiskLife → Type 0
+TellsAsBefore None new = new ≡ None
+TellsAsBefore (Some old) new = ⊤
+
+abbrev pub TellAsBefore : Option DiskLife → Option DiskLife → Option DiskLife → Option DiskLife → Type 0
+TellAsBefore disk spare disk' spare' = TellsAsBefore disk disk' × TellsAsBefore spare spare'
+
 -- what was done to the file of a side, and to no other
 pub record OnSide (side : Side) (disk spare disk' spare' : Option DiskLife) (P : List ℕ → Type 0) : Type 0 where
   pub leaves : LeavesSince (at_side side disk spare) (at_side side disk' spare') P

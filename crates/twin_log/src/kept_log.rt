@@ -240,6 +240,7 @@ impl KeptLog {
         into: &mut Vec<u8>,
     ) -> Result<bool, LogCause>
         ensures reads { ReadsTwin self.old (D.told disk.old) (D.told spare.old) result into.new.items self.new }
+        ensures side { self.new.side ≡ self.old.side }
         ensures on { result ≡ Ok true → self.old.next < self.new.next }
         ensures failed { OnErr result (self.new ≡ self.old) }
         ensures within { self.new.next ≤ self.new.size }

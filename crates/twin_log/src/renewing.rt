@@ -3,7 +3,7 @@
 ghost use Rattle.std.specs.Prelude.{◌≡◌, ◌≢◌, ◌+◌, ◌<◌, ◌-◌, ◌^◌, List, ℕ, Some, None, OnOk, IfSome};
 ghost use Rattle.twin_log.specs.Twins.{TwinLog, at_side, opposite};
 ghost use Rattle.twin_log.specs.KeptLogs.{RenewsTwin, StandsTwin, next_generation};
-ghost use Rattle.twin_log.specs.LogCalls.{BeginsRenewal, ClearsOn, CountsTwins, EndsRenewal, HasRenewed, PutsMore};
+ghost use Rattle.twin_log.specs.LogCalls.{BeginsRenewal, ClearsOn, CountsTwins, EndsRenewal, HasRenewed, PutsMore, TellAsBefore};
 
 use crate::appending::{seal_on, stage_on};
 use crate::generation::generation_record;
@@ -14,8 +14,10 @@ use rpc_record::Failed;
 use store_disk::Disk;
 
 /// Clears the file of a side.
+#[tactic(auto, using(crate::proofs::Sides::clears_tell))]
 fn clear_on<D: Disk>(side: Side, disk: &mut D, spare: &mut D) -> Result<(), Failed>
     ensures clears { ClearsOn side (D.told disk.old) (D.told spare.old) result (D.told disk.new) (D.told spare.new) }
+    ensures tells { TellAsBefore (D.told disk.old) (D.told spare.old) (D.told disk.new) (D.told spare.new) }
     ensures faults { CountsTwins result (D.faults disk.old) (D.faults spare.old) (D.faults disk.new) (D.faults spare.new) }
 {
     match side {
@@ -45,6 +47,7 @@ impl KeptLog {
         ensures begins { (says : TwinLog) → StandsTwin self.old says (D.told disk.old) (D.told spare.old) → BeginsRenewal self.old (D.told disk.old) (D.told spare.old) says result self.new (D.told disk.new) (D.told spare.new) }
         ensures renews { OnOk result (self.new.renewed ≢ None) }
         ensures keeps { self.new ≡ record self.old { renewed = self.new.renewed } }
+        ensures tells { TellAsBefore (D.told disk.old) (D.told spare.old) (D.told disk.new) (D.told spare.new) }
         ensures faults { CountsTwins result (D.faults disk.old) (D.faults spare.old) (D.faults disk.new) (D.faults spare.new) }
     {
         let Ok(record) = generation_record(self.alloc, generation_behind(self.generation)) else {
@@ -64,6 +67,7 @@ impl KeptLog {
         ensures puts { (says : TwinLog) (put : List (List ℕ)) → RenewsTwin self.old says put (D.told disk.old) (D.told spare.old) → PutsMore self.old (D.told disk.old) (D.told spare.old) says put body.now result self.new (D.told disk.new) (D.told spare.new) }
         ensures renews { OnOk result (self.new.renewed ≢ None) }
         ensures keeps { self.new ≡ record self.old { renewed = self.new.renewed } }
+        ensures tells { TellAsBefore (D.told disk.old) (D.told spare.old) (D.told disk.new) (D.told spare.new) }
         ensures faults { CountsTwins result (D.faults disk.old) (D.faults spare.old) (D.faults disk.new) (D.faults spare.new) }
     {
         let at = match self.renewed {
@@ -82,6 +86,7 @@ impl KeptLog {
         requires { self.old.renewed ≢ None }
         ensures ends { (says : TwinLog) (put : List (List ℕ)) → RenewsTwin self.old says put (D.told disk.old) (D.told spare.old) → EndsRenewal self.old (D.told disk.old) (D.told spare.old) put result self.new (D.told disk.new) (D.told spare.new) }
         ensures renewed { OnOk result (HasRenewed self.old self.new) }
+        ensures tells { TellAsBefore (D.told disk.old) (D.told spare.old) (D.told disk.new) (D.told spare.new) }
         ensures faults { CountsTwins result (D.faults disk.old) (D.faults spare.old) (D.faults disk.new) (D.faults spare.new) }
     {
         let at = match self.renewed {
