@@ -114,8 +114,7 @@ fn read_create<'a>(cursor: &mut Cursor<'a>) -> Result<LogBody<'a>, XdrError>
 fn read_set_attr<'a>(cursor: &mut Cursor<'a>) -> Result<LogBody<'a>, XdrError>
     ensures { Decodes (λ body. body_value (plain_body body)) cursor.old result cursor.new (arm_reading body_form 3 cursor.old.bytes cursor.old.at) }
 {
-    let (fileid, owner, (group, mode, wire)) =
-        <(u64, u32, (u32, u32, WireTimes))>::read(cursor)?;
+    let (fileid, owner, (group, mode, wire)) = <(u64, u32, (u32, u32, WireTimes))>::read(cursor)?;
     Ok(LogBody::SetAttr {
         fileid,
         owner,

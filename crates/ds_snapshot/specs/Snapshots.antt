@@ -4,11 +4,10 @@ use Rattle.cluster_model.specs.Content.{Pending}
 use Rattle.cluster_model.specs.File.{StoredFile}
 use Rattle.cluster_model.specs.Server.{ServerState}
 use Rattle.ds_log.specs.Bodies.{Logged, Boots, HoldsBytes, HoldsFile, HoldsRoot}
-use Rattle.ds_snapshot.specs.declared.chunk.TheConstants.{CHUNK}
 
 -- how many bytes of a file one body has at most; its chunks begin at multiples of it
 abbrev pub chunk_size : ℕ
-chunk_size = CHUNK
+chunk_size = 1048576
 
 abbrev pub chunk_at : List ℕ → ℕ → Pending
 chunk_at bytes k = record { at = k * chunk_size; bytes = take chunk_size (drop (k * chunk_size) bytes) }

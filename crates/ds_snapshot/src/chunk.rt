@@ -21,7 +21,7 @@ use std::alloc::Global;
 /// How many bytes of a file one body has at most.
 pub const CHUNK: u64 = 1_048_576;
 
-/// How many bytes stand before a body in an `Out`.
+/// What stands before a body in an `Out`.
 const FRONT: [u8; 5] = [0; 5];
 
 /// The most bytes of a body beside those of a name or of a file.
@@ -29,7 +29,7 @@ const REST: usize = 64;
 
 /// Room for a body of so many bytes of a name or a file, behind the bytes that stand before it.
 fn begun(alloc: Global, count: usize) -> Result<Out, NoMemory>
-    requires { count ≤ 1048576 }
+    requires { count ≤ max_file }
     ensures { IfOk result (λ out. (out ≡ replicate 5 0) × (length out ≡ 5)) }
 {
     let mut out = Out::new(alloc);
@@ -49,7 +49,7 @@ fn framed(alloc: Global, out: Out) -> Result<Gated, NoMemory>
 
 /// The bytes of a body with so many bytes of a name.
 pub fn spelled(alloc: Global, count: usize, body: &LogBody<'_>) -> Result<Gated, NoMemory>
-    requires count { count ≤ 1048576 }
+    requires count { count ≤ max_file }
     requires fits { Fits body_form (body_value (plain_body body.now)) }
     requires short { length (spelling body_form (body_value (plain_body body.now))) < 2 ^ 32 }
     ensures { IfOk result (λ gated. body_in gated ≡ Some (plain_body body.now)) }
@@ -99,7 +99,7 @@ fn range_held(
     requires times { TimesFit times }
     ensures { IfOk result (λ gated. body_in gated ≡ Some (HoldsBytes fileid times.mtime times.ctime (plain_held range.entry ∷ []))) }
 {
-    let mut out = begun(alloc, CHUNK as usize)?;
+    let mut out = begun(alloc, range.part.len())?;
     let ranges = [range];
     put_held(fileid, times.mtime, times.ctime, &ranges, None, &mut out)?;
     framed(alloc, out)

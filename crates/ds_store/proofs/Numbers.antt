@@ -1,12 +1,12 @@
 -- A server keeps its number.
-use Rattle.std.proofs.Common.{◌≡◌, ℕ, ◌+◌, ◌-◌, Bool, true, false, ltb, cond, List, [], ◌∷◌, length, Option, Some, None, Ok, refl, sym, ap, subst, ◌∙◌}
+use Rattle.std.proofs.Common.{◌≡◌, ℕ, ◌+◌, ◌-◌, Bool, true, false, ltb, leb, cond, List, [], ◌∷◌, length, Option, Some, None, Ok, refl, sym, ap, subst, ◌∙◌}
 use Rattle.std.specs.Prelude.{slice_get}
 use Rattle.std.proofs.lemmas.Bool.{cond_both}
 use Rattle.std.proofs.lemmas.Option.{same_Some}
 use Rattle.cluster_model.specs.File.{StoredFile}
 use Rattle.cluster_model.specs.Server.{ServerState, Effect, NoEffect, OnFile, NewFile, on_file, server_after}
-use Rattle.ds_log.specs.Bodies.{Logged, Boots, Creates, SetsAttributes, HoldsBytes, body_in}
-use Rattle.ds_log.specs.Durable.{start_of, created, with_stored, attributed, holding, on_stored, at_fileid, applied, applied_as, applied_bytes, played, played_on}
+use Rattle.ds_log.specs.Bodies.{Logged, Boots, Creates, SetsAttributes, HoldsBytes, HoldsFile, HoldsRoot, body_in}
+use Rattle.ds_log.specs.Durable.{start_of, created, with_lasting_file, with_stored, attributed, holding, on_stored, at_fileid, applied, applied_as, applied_bytes, played, played_on}
 
 pub number_after : (s : ServerState) (what : Effect) → s.number ≡ (server_after s what).number
 number_after s NoEffect = refl
@@ -39,6 +39,8 @@ applied_number s new (Boots boot) e = unless (ltb s.clock.boot boot) s (record s
 applied_number s new (Creates name fileid owner group mode tick) e = unless _ s (created s name owner group mode tick) new refl e
 applied_number s new (SetsAttributes fileid owner group mode times) e = at_number s new fileid _ (λ (f : StoredFile). attributed f owner group mode times) e
 applied_number s new (HoldsBytes fileid mtime ctime ranges) e = at_number s new fileid _ (λ (f : StoredFile). holding f mtime ctime ranges) e
+applied_number s new (HoldsFile name fileid owner group mode times) e = unless _ s (with_lasting_file s name owner group mode times) new refl e
+applied_number s new (HoldsRoot times) e = unless (leb times.ctime.boot s.clock.boot) s (record s { root = times }) new refl e
 
 body_number : (s new : ServerState) (o : Option Logged) → applied_as s o ≡ Some new → new.number ≡ s.number
 body_number s new None e = absurd (cc (e))
