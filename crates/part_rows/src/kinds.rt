@@ -3,9 +3,9 @@
 use part_calls::{DevicesRows, DsCallsRows, FramesRows, MdsCallsRows};
 use part_entries::EntryRows;
 use part_grants::{LayoutsRows, ResultsRows};
+use part_log::GateLogRows;
 use part_mds::{FileRows, OpensRows, OperationRows};
 use part_mds_bytes::{MdsReceiveRows, RecallCallsRows};
-use part_log::GateLogRows;
 use part_messages::MessageRows;
 use part_nodes::{ClientRows, DataFileRows, MdsRows, ServerRows, StoreRows};
 use part_pages::PagesRows;
