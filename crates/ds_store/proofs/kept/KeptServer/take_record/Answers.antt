@@ -1,8 +1,14 @@
-use Rattle.std.proofs.Common.{Ok, Err}
+use Rattle.std.proofs.Common.{Ok, Err, ap, ◌∙◌}
+use Rattle.std.proofs.lemmas.Result.{err_from_is_err_and}
 use Rattle.cluster_model.specs.Server.{server_after}
 use Rattle.ds_procedures.specs.CodePlans.{plain_effect}
-use Rattle.ds_store.proofs.Keeping.{going, after_decision, steps}
+use Rattle.ds_store.proofs.Keeping.{going, after_decision, stays, steps}
 use Rattle.ds_store.proofs.kept.KeptServer.take_record.Goals as goal
+
+pub returns-in_err-post-clause-steps : goal.returns-in_err-post-clause-steps
+returns-in_err-post-clause-steps g c =
+    let p = err_from_is_err_and c.from_residual-in_err-post.result c.from_residual-in_err-post.ensures.1 in
+    stays _ c.args.self.now (g.D.Disk.told c.args.disk.now) c.from_residual-in_err-post.result (going _ c.args.self.now c.self.view_is c.in_default.not-Some) c.requires (p.1 ∙ ap Err p.2)
 
 pub returns-in-Err-clause-steps : goal.returns-in-Err-clause-steps
 returns-in-Err-clause-steps g c =
