@@ -25,13 +25,13 @@ bodies_from (next.File index) s = files_from s index
 bodies_from (next.Chunk index chunk) s = chunks_from index chunk (slice_get s.files index) ++ files_from s (index + 1)
 
 -- The first of those that were left, as bytes, and those that are left behind it; or none were left. At an error nothing is said.
-abbrev pub Gives : List Logged → Result (Option (List ℕ)) NoMemory → List Logged → Type 0
-Gives old (Ok (Some bytes)) new = (body : Logged) × (old ≡ body ∷ new) × (body_in bytes ≡ Some body)
-Gives old (Ok None) new = old ≡ []
-Gives old (Err e) new = Unit {0}
+abbrev pub GivesBody : List Logged → Result (Option (List ℕ)) NoMemory → List Logged → Type 0
+GivesBody old (Ok (Some bytes)) new = (body : Logged) × (old ≡ body ∷ new) × (body_in bytes ≡ Some body)
+GivesBody old (Ok None) new = old ≡ []
+GivesBody old (Err e) new = Unit {0}
 
 -- the same where it is told which body comes behind it
-abbrev pub GivesNext : List Logged → ServerState → Result (Option (List ℕ × NextBody)) NoMemory → Type 0
-GivesNext old s (Ok (Some (bytes, after))) = (body : Logged) × (old ≡ body ∷ bodies_from after s) × (body_in bytes ≡ Some body)
-GivesNext old s (Ok None) = old ≡ []
-GivesNext old s (Err e) = Unit {0}
+abbrev pub GivesBodyThen : List Logged → ServerState → Result (Option (List ℕ × NextBody)) NoMemory → Type 0
+GivesBodyThen old s (Ok (Some (bytes, after))) = (body : Logged) × (old ≡ body ∷ bodies_from after s) × (body_in bytes ≡ Some body)
+GivesBodyThen old s (Ok None) = old ≡ []
+GivesBodyThen old s (Err e) = Unit {0}

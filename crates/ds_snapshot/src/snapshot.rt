@@ -6,7 +6,7 @@ ghost use Rattle.ds_log.specs.Durable.{durable};
 ghost use Rattle.ds_log.specs.Steady.{IsSteady};
 ghost use Rattle.ds_snapshot.specs.declared.snapshot.NextBody.TheVariants.{Chunk};
 ghost use Rattle.ds_snapshot.specs.Snapshots.{snapshot_of};
-ghost use Rattle.ds_snapshot.specs.NextBodies.{bodies_from, files_from, Gives, GivesNext};
+ghost use Rattle.ds_snapshot.specs.NextBodies.{bodies_from, files_from, GivesBody, GivesBodyThen};
 
 use crate::chunk::{chunk_count, chunk_held, file_held, spelled};
 use crate::files::file_at;
@@ -37,7 +37,7 @@ fn give_file(
     index: usize,
 ) -> Result<Option<(Gated, NextBody)>, NoMemory>
     requires { IsSteady server.now }
-    ensures { GivesNext (files_from (durable server.now) index) (durable server.now) result }
+    ensures { GivesBodyThen (files_from (durable server.now) index) (durable server.now) result }
 {
     let Some(file) = file_at(server, index) else {
         return Ok(None);
@@ -57,7 +57,7 @@ fn give_chunk(
     chunk: u64,
 ) -> Result<Option<(Gated, NextBody)>, NoMemory>
     requires { IsSteady server.now }
-    ensures { GivesNext (bodies_from (Chunk index chunk) (durable server.now)) (durable server.now) result }
+    ensures { GivesBodyThen (bodies_from (Chunk index chunk) (durable server.now)) (durable server.now) result }
 {
     let Some(file) = file_at(server, index) else {
         return Ok(None);
@@ -82,7 +82,7 @@ fn give(
     next: NextBody,
 ) -> Result<Option<(Gated, NextBody)>, NoMemory>
     requires { IsSteady server.now }
-    ensures { GivesNext (bodies_from next (durable server.now)) (durable server.now) result }
+    ensures { GivesBodyThen (bodies_from next (durable server.now)) (durable server.now) result }
 {
     match next {
         NextBody::Boot => {
@@ -133,7 +133,7 @@ impl Snapshot {
     /// `NoMemory` where memory is wanted for the body, which comes again then.
     pub fn next(&mut self, alloc: Global, server: &DataServer) -> Result<Option<Gated>, NoMemory>
         requires steady { IsSteady server.now }
-        ensures next { Gives (bodies_from self.old (durable server.now)) result (bodies_from self.new (durable server.now)) }
+        ensures next { GivesBody (bodies_from self.old (durable server.now)) result (bodies_from self.new (durable server.now)) }
         ensures err { OnErr result (self.new ≡ self.old) }
     {
         let Some((gated, next)) = give(alloc, server, self.next)? else {

@@ -3,7 +3,7 @@ use Rattle.std.proofs.Common.{◌≡◌, ℕ, eqb, ltb, cond, Option, Some, None
 use Rattle.std.proofs.lemmas.Bool.{cond_both, ltb-true, ltb-false, eqb-false}
 use Rattle.twin_log.specs.declared.side.Side.TheVariants.{Disk, Spare}
 use Rattle.twin_log.specs.Twins.{LogHolder, Neither, On, Both, log_holder}
-use Rattle.twin_log.specs.KeptLogs.{IsBelow}
+use Rattle.twin_log.specs.KeptLogs.{IsGenerationBelow}
 
 pub neither_has : (d s : Option ℕ) → log_holder d s ≡ Neither → (d ≡ None) × (s ≡ None)
 neither_has None None e = (refl, refl)
@@ -17,7 +17,7 @@ neither_has (Some g) (Some h) e =
 pub record Passes (own other : Option ℕ) : Type 0 where
   pub generation : ℕ
   pub is : own ≡ Some generation
-  pub below : IsBelow own other
+  pub below : IsGenerationBelow own other
 
 pub disk_has : (d s : Option ℕ) → log_holder d s ≡ On Disk → Passes d s
 disk_has None None e = absurd (cc (e))

@@ -12,7 +12,7 @@ use Rattle.twin_log.specs.declared.fault.LogCause.{LogCause}
 use Rattle.twin_log.specs.declared.fault.LogCause.TheVariants as cause
 use Rattle.twin_log.specs.declared.kept_log.FileHead.{FileHead}
 use Rattle.twin_log.specs.Twins.{LogHolder, Neither, On, Both, TwinLog, New, Has, Bad, file_says, first_generation, first_place, generation_by, generation_of, log_holder, says_by, twin_log, without_generation}
-use Rattle.twin_log.specs.KeptLogs.{HoldsFile, IsBelow, KeptLogState, StandsPassed, StandsTwin, new_pair}
+use Rattle.twin_log.specs.KeptLogs.{HoldsFile, IsGenerationBelow, KeptLogState, StandsPassed, StandsTwin, new_pair}
 use Rattle.twin_log.specs.Opening.{BeginsAs, HeadOf, OpensFile, OpensSide, opened_on}
 use Rattle.twin_log.specs.LogCalls.{FindsAs, FindsTwin}
 use Rattle.twin_log.proofs.Holders.{Passes, disk_has, neither_has, spare_has}
@@ -63,8 +63,8 @@ module _ (head : FileHead) (life : DiskLife) (begins : BeginsAs life.now.seen he
   says_cut cut = rw cut refl
 
 -- what is passed
-stands_passed : (own : Option ℕ) (life : DiskLife) (head : FileHead) → BeginsAs life.now.seen head → IsSynced life → IsBelow own head.generation → StandsPassed own (Some life)
-stands_passed own life head begins synced below = (synced, subst (IsBelow own) begins.generation below)
+stands_passed : (own : Option ℕ) (life : DiskLife) (head : FileHead) → BeginsAs life.now.seen head → IsSynced life → IsGenerationBelow own head.generation → StandsPassed own (Some life)
+stands_passed own life head begins synced below = (synced, subst (IsGenerationBelow own) begins.generation below)
 
 pub finds_none : (disk spare : Option DiskLife) (ours theirs : FileHead) (log : KeptLogState) → HeadOf disk (Ok ours) → HeadOf spare (Ok theirs) → log_holder ours.generation theirs.generation ≡ Neither → log ≡ new_pair
     → FindsTwin disk spare (Ok log)
@@ -72,8 +72,8 @@ finds_none None spare ours theirs log first second h is = tt
 finds_none (Some a) None ours theirs log first second h is = tt
 finds_none (Some a) (Some b) ours theirs log first second h is = λ sa sb.
     let none = neither_has ours.generation theirs.generation h in
-    let below_disk : IsBelow None ours.generation = subst (IsBelow None) (sym none.0) tt in
-    let below_spare : IsBelow None theirs.generation = subst (IsBelow None) (sym none.1) tt in
+    let below_disk : IsGenerationBelow None ours.generation = subst (IsGenerationBelow None) (sym none.0) tt in
+    let below_spare : IsGenerationBelow None theirs.generation = subst (IsGenerationBelow None) (sym none.1) tt in
     let stands : StandsTwin new_pair New (Some a) (Some b) = record {
       generation_is = refl;
       own = stands_passed None b theirs second sb below_spare;

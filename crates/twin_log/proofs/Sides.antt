@@ -15,7 +15,7 @@ use Rattle.gate_log.proofs.StageLemmas.{same_bodies, waits_in}
 use Rattle.twin_log.specs.declared.side.Side.{Side}
 use Rattle.twin_log.specs.declared.side.Side.TheVariants.{Disk, Spare}
 use Rattle.twin_log.specs.Twins.{LogHolder, On, TwinLog, New, Has, Bad, at_side, file_says, first_place, generation_body, generation_of, log_holder, opposite, says_by, twin_log, without_generation}
-use Rattle.twin_log.specs.KeptLogs.{HoldsFile, HoldsSaid, IsBelow, IsFileOf, IsPassed, KeptLogState, RenewsTwin, SaysLog, StandsPassed, StandsTwin, WaitsTwin, generation_said, next_generation}
+use Rattle.twin_log.specs.KeptLogs.{HoldsFile, HoldsSaid, IsGenerationBelow, IsFileOf, IsPassed, KeptLogState, RenewsTwin, SaysLog, StandsPassed, StandsTwin, WaitsTwin, generation_said, next_generation}
 use Rattle.twin_log.specs.LogCalls.{BeginsRenewal, ClearsOn, EndsRenewal, LeavesAsBefore, OnSide, PutsMore, SealsOn, SealsTwin, StagesOn, TellAsBefore, TellsAsBefore, renewed_place}
 use Rattle.twin_log.proofs.Files.{says_more, generation_again, generation_some}
 
@@ -221,13 +221,13 @@ file_below : (told : Option DiskLife) (generation start : ℕ) (bodies : List (L
 file_below None generation start bodies end size next h less = tt
 file_below (Some life) generation start bodies end size next h less =
     let is : generation_of (log_of life.now.seen) ≡ Some generation = ap generation_of h.log.log ∙ h.says.generation_is in
-    (h.log.synced, subst (λ (g : Option ℕ). IsBelow (Some next) g) (sym is) less)
+    (h.log.synced, subst (λ (g : Option ℕ). IsGenerationBelow (Some next) g) (sym is) less)
 
 none_below : (told : Option DiskLife) (next : ℕ) → StandsPassed None told → StandsPassed (Some next) told
 none_below None next h = tt
 none_below (Some life) next h = (h.0, below (generation_of (log_of life.now.seen)) h.1)
   where
-    below : (g : Option ℕ) → IsBelow None g → IsBelow (Some next) g
+    below : (g : Option ℕ) → IsGenerationBelow None g → IsGenerationBelow (Some next) g
     below None b = tt
     below (Some g) b = absurd b
 
@@ -308,16 +308,16 @@ is_some renewed at is none = absurd (cc (is, none))
 pub file_passed : (generation start : ℕ) (bodies : List (List ℕ)) (next : ℕ) (left : List ℕ) → IsFileOf generation start bodies left → generation < next → IsPassed (Some next) left
 file_passed generation start bodies next left is less =
     let here : generation_of (log_of left) ≡ Some generation = ap generation_of is.log ∙ is.says.generation_is in
-    subst (IsBelow (Some next)) (sym here) less
+    subst (IsGenerationBelow (Some next)) (sym here) less
 
-disk_holds : (g : ℕ) (other : Option ℕ) → IsBelow (Some g) other → log_holder (Some g) other ≡ On Disk
+disk_holds : (g : ℕ) (other : Option ℕ) → IsGenerationBelow (Some g) other → log_holder (Some g) other ≡ On Disk
 disk_holds g None below = refl
 disk_holds g (Some h) below =
     let ne : eqb g h ≡ false = ne_eqb g h (λ e. absurd (omega (arith, e, below))) in
     let less = lt-ltb h g below in
     rw (ne, less) refl
 
-spare_holds : (g : ℕ) (other : Option ℕ) → IsBelow (Some g) other → log_holder other (Some g) ≡ On Spare
+spare_holds : (g : ℕ) (other : Option ℕ) → IsGenerationBelow (Some g) other → log_holder other (Some g) ≡ On Spare
 spare_holds g None below = refl
 spare_holds g (Some h) below =
     let ne : eqb h g ≡ false = ne_eqb h g (λ e. absurd (omega (arith, e, below))) in
@@ -347,7 +347,7 @@ says_new disk spare first second =
     let other = none_of (generation_of (log_of spare)) second in
     rw (one, other) refl
   where
-    none_of : (g : Option ℕ) → IsBelow None g → g ≡ None
+    none_of : (g : Option ℕ) → IsGenerationBelow None g → g ≡ None
     none_of None below = refl
     none_of (Some h) below = absurd below
 

@@ -62,13 +62,13 @@ pub record IsFileOf (generation start : ℕ) (bodies : List (List ℕ)) (left : 
   pub says : SaysLog all generation start bodies
 
 -- it has no record, or a generation below this one, where there is one
-abbrev pub IsBelow : Option ℕ → Option ℕ → Type 0
-IsBelow generation None = ⊤
-IsBelow None (Some h) = ⊥
-IsBelow (Some g) (Some h) = h < g
+abbrev pub IsGenerationBelow : Option ℕ → Option ℕ → Type 0
+IsGenerationBelow generation None = ⊤
+IsGenerationBelow None (Some h) = ⊥
+IsGenerationBelow (Some g) (Some h) = h < g
 
 abbrev pub IsPassed : Option ℕ → List ℕ → Type 0
-IsPassed generation left = IsBelow generation (generation_of (log_of left))
+IsPassed generation left = IsGenerationBelow generation (generation_of (log_of left))
 
 -- the same of a disk of which all is synced, and which may tell nothing
 abbrev pub StandsPassed : Option ℕ → Option DiskLife → Type 0

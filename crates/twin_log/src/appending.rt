@@ -12,7 +12,6 @@ use rpc_record::Failed;
 use store_disk::Disk;
 
 /// Writes a record that waits in the file of a side.
-
 pub(crate) fn stage_on<D: Disk>(
     side: Side,
     disk: &mut D,
@@ -35,7 +34,6 @@ pub(crate) fn stage_on<D: Disk>(
 }
 
 /// Makes the records that wait in the file of a side part of its log.
-
 pub(crate) fn seal_on<D: Disk>(
     side: Side,
     disk: &mut D,

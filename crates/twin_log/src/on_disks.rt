@@ -1,6 +1,6 @@
 //! A log in two files together with its two disks.
 
-ghost use Rattle.std.specs.Prelude.{◌≡◌, ◌+◌, ◌++◌, ◌^◌, ◌<◌, ◌≢◌, List, ℕ, Some, None, OnOk, OnErr, true, length};
+ghost use Rattle.std.specs.Prelude.{◌≡◌, ◌+◌, ◌++◌, ◌^◌, ◌<◌, ◌≤◌, ◌≢◌, List, ℕ, Some, None, OnOk, OnErr, true, length};
 ghost use Rattle.twin_log.specs.Twins.{Has, TwinLog};
 ghost use Rattle.twin_log.specs.KeptLogs.{RenewsTwin, StandsTwin, can_begin};
 ghost use Rattle.twin_log.specs.LogCalls.{AppendsTwin, BeginsRenewal, CountsTwins, EndsRenewal, HasRenewed, PutsMore, ReadsTwin, plain_cause, sealed_log, staged_log};
@@ -107,6 +107,7 @@ fn read_from<D: Disk>(parts: &mut Parts<D>, into: &mut Vec<u8>) -> Result<bool, 
     ensures reads { ReadsTwin parts.old.log (D.told parts.old.disk) (D.told parts.old.spare) result into.new.items parts.new.log }
     ensures failed { OnErr result (parts.new.log ≡ parts.old.log) }
     ensures on { result ≡ Ok true → parts.old.log.next < parts.new.log.next }
+    ensures within { parts.new.log.next ≤ parts.new.log.size }
     ensures size { parts.new.log.size ≡ parts.old.log.size }
     ensures same { D.told parts.new.disk ≡ D.told parts.old.disk }
     ensures same_spare { D.told parts.new.spare ≡ D.told parts.old.spare }
@@ -190,6 +191,7 @@ impl<D: Disk + Drop> GateLog<D> {
         ensures reads { ReadsGateLog self.old result into.new.items self.new }
         ensures answers { AnswersLog self.old.spent self.old result self.new }
         ensures on { result ≡ Ok true → self.old.log.next < self.new.log.next }
+        ensures within { self.new.log.next ≤ self.new.log.size }
         ensures size { self.new.log.size ≡ self.old.log.size }
         ensures same { self.new.disk ≡ self.old.disk }
         ensures same_spare { self.new.spare ≡ self.old.spare }
