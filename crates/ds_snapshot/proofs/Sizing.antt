@@ -13,9 +13,9 @@ use Rattle.cluster_model.specs.File.{StoredFile}
 use Rattle.cluster_model.specs.Server.{ServerState}
 use Rattle.ds_log.specs.Bodies.{Logged, Boots, HoldsBytes, HoldsFile, HoldsRoot, times_form, times_value, tick_form, tick_value}
 use Rattle.ds_log.specs.Durable.{durable}
-use Rattle.ds_snapshot.specs.Snapshots.{chunk_size, chunk_at, first_chunks, chunk_count, chunk_bodies, file_bodies}
+use Rattle.ds_snapshot.specs.Snapshots.{body_text, chunk_size, chunk_at, first_chunks, chunk_count, chunk_bodies, file_bodies}
 use Rattle.ds_snapshot.specs.NextBodies.{files_from}
-use Rattle.ds_snapshot.specs.Sizes.{body_text, bodies_size, snapshot_size, CountsFile}
+use Rattle.ds_snapshot.specs.Sizes.{bodies_size, snapshot_size, CountsFile}
 use Rattle.ds_snapshot.proofs.Chunks.{chunk_length, none_first, one_more, holds}
 use Rattle.ds_snapshot.proofs.Left.{left, file_there}
 

@@ -13,17 +13,17 @@ use Rattle.ds_log.specs.Steady.{IsSteady, AreGoodNames}
 use Rattle.ds_log.proofs.Reread.{body_again}
 use Rattle.ds_changes.specs.Logging.{AreFewRanges, TimesFit}
 use Rattle.ds_changes.proofs.BodySizes.{bytes_fit, bytes_short}
-use Rattle.ds_snapshot.specs.Snapshots.{chunk_size, chunk_at, chunk_count}
-use Rattle.ds_snapshot.specs.Sizes.{body_text}
+use Rattle.ds_snapshot.specs.Snapshots.{body_text, chunk_size, chunk_at, chunk_count}
 use Rattle.ds_snapshot.proofs.Chunks.{chunk_length}
 use Rattle.ds_snapshot.proofs.Sizing.{boot_size, root_size, file_body_size}
 
 -- ---- a body behind five bytes
 
+pub framed_text : (body : Logged) (out new gated : List ℕ) → out ≡ replicate 5 0 → new ≡ out ++ body_text body → gated ≡ drop 5 new → gated ≡ body_text body
+framed_text body out new gated front text is = is ∙ ap (drop 5) (text ∙ ap (λ (o : List ℕ). o ++ body_text body) front)
+
 pub framed_body : (body : Logged) (out new gated : List ℕ) → Fits body_form (body_value body) → out ≡ replicate 5 0 → new ≡ out ++ body_text body → gated ≡ drop 5 new → body_in gated ≡ Some body
-framed_body body out new gated fits front text is =
-    let whole : gated ≡ body_text body = is ∙ ap (drop 5) (text ∙ ap (λ (o : List ℕ). o ++ body_text body) front) in
-    ap body_in whole ∙ body_again body fits
+framed_body body out new gated fits front text is = ap body_in (framed_text body out new gated front text is) ∙ body_again body fits
 
 pub framed_short : (body : Logged) (out new : List ℕ) → length (body_text body) < 2 ^ 32 → length out ≡ 5 → new ≡ out ++ body_text body → length new < 2 ^ 32 + 5
 framed_short body out new short front text =

@@ -3,10 +3,10 @@ use Rattle.std.specs.Prelude.{◌≡◌, ℕ, ◌+◌, List, [], ◌∷◌, ◌+
 use Rattle.ff_xdr.specs.declared.error.NoMemory.{NoMemory}
 use Rattle.cluster_model.specs.File.{StoredFile}
 use Rattle.cluster_model.specs.Server.{ServerState}
-use Rattle.ds_log.specs.Bodies.{Logged, HoldsRoot, body_in}
+use Rattle.ds_log.specs.Bodies.{Logged, HoldsRoot}
 use Rattle.ds_snapshot.specs.declared.snapshot.NextBody.{NextBody}
 use Rattle.ds_snapshot.specs.declared.snapshot.NextBody.TheVariants as next
-use Rattle.ds_snapshot.specs.Snapshots.{chunk_bodies, files_bodies, snapshot_of}
+use Rattle.ds_snapshot.specs.Snapshots.{IsBodyOf, chunk_bodies, files_bodies, snapshot_of}
 
 -- the bodies of the files from an index on
 abbrev pub files_from : ServerState → ℕ → List Logged
@@ -26,12 +26,12 @@ bodies_from (next.Chunk index chunk) s = chunks_from index chunk (slice_get s.fi
 
 -- The first of those that were left, as bytes, and those that are left behind it; or none were left. At an error nothing is said.
 abbrev pub GivesBody : List Logged → Result (Option (List ℕ)) NoMemory → List Logged → Type 0
-GivesBody old (Ok (Some bytes)) new = (body : Logged) × (old ≡ body ∷ new) × (body_in bytes ≡ Some body)
+GivesBody old (Ok (Some bytes)) new = (body : Logged) × (old ≡ body ∷ new) × IsBodyOf bytes body
 GivesBody old (Ok None) new = old ≡ []
 GivesBody old (Err e) new = Unit {0}
 
 -- the same where it is told which body comes behind it
 abbrev pub GivesBodyThen : List Logged → ServerState → Result (Option (List ℕ × NextBody)) NoMemory → Type 0
-GivesBodyThen old s (Ok (Some (bytes, after))) = (body : Logged) × (old ≡ body ∷ bodies_from after s) × (body_in bytes ≡ Some body)
+GivesBodyThen old s (Ok (Some (bytes, after))) = (body : Logged) × (old ≡ body ∷ bodies_from after s) × IsBodyOf bytes body
 GivesBodyThen old s (Ok None) = old ≡ []
 GivesBodyThen old s (Err e) = Unit {0}

@@ -1,14 +1,10 @@
 -- How many bytes a snapshot has in a log.
 use Rattle.std.specs.Prelude.{◌≡◌, ℕ, ◌+◌, List, [], map, Option, Some, None}
-use Rattle.ff_xdr.specs.Form.{spelling}
 use Rattle.gate_log.specs.Logs.{log_size}
 use Rattle.cluster_model.specs.Server.{ServerState}
-use Rattle.ds_log.specs.Bodies.{Logged, body_form, body_value}
-use Rattle.ds_snapshot.specs.Snapshots.{snapshot_of}
+use Rattle.ds_log.specs.Bodies.{Logged}
+use Rattle.ds_snapshot.specs.Snapshots.{body_text, snapshot_of}
 use Rattle.ds_snapshot.specs.NextBodies.{files_from}
-
-abbrev pub body_text : Logged → List ℕ
-body_text body = spelling body_form (body_value body)
 
 -- the bytes of the records of bodies
 abbrev pub bodies_size : List Logged → ℕ

@@ -1,9 +1,29 @@
 -- A snapshot: the bodies that say what lasts of a server, from nothing.
-use Rattle.std.specs.Prelude.{ℕ, zero, suc, ◌+◌, ◌*◌, ◌/◌, List, [], ◌∷◌, ◌++◌, length, map, take, drop}
+use Rattle.std.specs.Prelude.{⊤, ◌≡◌, ℕ, zero, suc, ◌+◌, ◌*◌, ◌/◌, List, [], ◌∷◌, ◌++◌, length, map, take, drop, Some}
+use Rattle.ff_xdr.specs.Form.{spelling}
 use Rattle.cluster_model.specs.Content.{Pending}
 use Rattle.cluster_model.specs.File.{StoredFile}
 use Rattle.cluster_model.specs.Server.{ServerState}
-use Rattle.ds_log.specs.Bodies.{Logged, Boots, HoldsBytes, HoldsFile, HoldsRoot}
+use Rattle.ds_log.specs.Bodies.{Logged, Boots, HoldsBytes, HoldsFile, HoldsRoot, body_form, body_in, body_value}
+
+-- ---- bodies as bytes
+
+abbrev pub body_text : Logged → List ℕ
+body_text body = spelling body_form (body_value body)
+
+-- the bytes are those of the body, and are read as it
+pub record IsBodyOf (bytes : List ℕ) (body : Logged) : Type 0 where
+  pub text : bytes ≡ body_text body
+  pub read : body_in bytes ≡ Some body
+
+-- each of the one list are those of its body in the other
+abbrev pub AreBodiesOf : List (List ℕ) → List Logged → Type 0
+AreBodiesOf [] [] = ⊤
+AreBodiesOf [] (body ∷ bodies) = ⊥
+AreBodiesOf (bytes ∷ texts) [] = ⊥
+AreBodiesOf (bytes ∷ texts) (body ∷ bodies) = IsBodyOf bytes body × AreBodiesOf texts bodies
+
+-- ---- a snapshot
 
 -- how many bytes of a file one body has at most; its chunks begin at multiples of it
 abbrev pub chunk_size : ℕ

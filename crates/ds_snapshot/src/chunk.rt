@@ -8,7 +8,7 @@ ghost use Rattle.ds_log.specs.Bodies.{HoldsBytes, body_form, body_value, body_in
 ghost use Rattle.ds_log.specs.PlainBodies.{plain_body};
 ghost use Rattle.ds_changes.specs.HeldRanges.{plain_held};
 ghost use Rattle.ds_changes.specs.Logging.{AreFewRanges, TimesFit};
-ghost use Rattle.ds_snapshot.specs.Snapshots.{chunk_at, chunk_count, file_body};
+ghost use Rattle.ds_snapshot.specs.Snapshots.{body_text, chunk_at, chunk_count, file_body};
 
 use cluster_model::Times;
 use data_file::DataFile;
@@ -52,7 +52,8 @@ pub fn spelled(alloc: Global, count: usize, body: &LogBody<'_>) -> Result<Gated,
     requires count { count ≤ max_file }
     requires fits { Fits body_form (body_value (plain_body body.now)) }
     requires short { length (spelling body_form (body_value (plain_body body.now))) < 2 ^ 32 }
-    ensures { IfOk result (λ gated. body_in gated ≡ Some (plain_body body.now)) }
+    ensures read { IfOk result (λ gated. body_in gated ≡ Some (plain_body body.now)) }
+    ensures text { IfOk result (λ gated. gated ≡ body_text (plain_body body.now)) }
 {
     let mut out = begun(alloc, count)?;
     body.write(&mut out)?;
@@ -67,7 +68,8 @@ pub fn file_held(
     file: &DataFile,
 ) -> Result<Gated, NoMemory>
     requires { length name.now ≤ 255 }
-    ensures { IfOk result (λ gated. body_in gated ≡ Some (file_body fileid name.now (restarted file.now []))) }
+    ensures read { IfOk result (λ gated. body_in gated ≡ Some (file_body fileid name.now (restarted file.now []))) }
+    ensures text { IfOk result (λ gated. gated ≡ body_text (file_body fileid name.now (restarted file.now []))) }
 {
     let body = LogBody::File {
         name,
@@ -97,7 +99,8 @@ fn range_held(
 ) -> Result<Gated, NoMemory>
     requires few { AreFewRanges (plain_held range ∷ []) }
     requires times { TimesFit times }
-    ensures { IfOk result (λ gated. body_in gated ≡ Some (HoldsBytes fileid times.mtime times.ctime (plain_held range.entry ∷ []))) }
+    ensures read { IfOk result (λ gated. body_in gated ≡ Some (HoldsBytes fileid times.mtime times.ctime (plain_held range.entry ∷ []))) }
+    ensures text { IfOk result (λ gated. gated ≡ body_text (HoldsBytes fileid times.mtime times.ctime (plain_held range.entry ∷ []))) }
 {
     let mut out = begun(alloc, range.part.len())?;
     let ranges = [range];
@@ -114,7 +117,8 @@ pub fn chunk_held(
 ) -> Result<Gated, NoMemory>
     requires there { chunk < chunk_count (length file.now.content.stable) }
     requires size { length file.now.content.stable ≤ max_file }
-    ensures { IfOk result (λ gated. body_in gated ≡ Some (HoldsBytes fileid file.now.stable_times.mtime file.now.stable_times.ctime (chunk_at file.now.content.stable chunk ∷ []))) }
+    ensures read { IfOk result (λ gated. body_in gated ≡ Some (HoldsBytes fileid file.now.stable_times.mtime file.now.stable_times.ctime (chunk_at file.now.content.stable chunk ∷ []))) }
+    ensures text { IfOk result (λ gated. gated ≡ body_text (HoldsBytes fileid file.now.stable_times.mtime file.now.stable_times.ctime (chunk_at file.now.content.stable chunk ∷ []))) }
 {
     let times = file.stable_times();
     let at = chunk * CHUNK;

@@ -20,4 +20,4 @@ pub returns : goal.returns
 returns c =
     let f = c.in-Some.file.now in
     let there = rw (c.chunk_count.ensures, c.stable_size.ensures.exact) at c.if-chunk-chunk_count.false in
-    (holds (c.args.index + 2) (left f) (chunk_at f.content.stable c.args.chunk), chunk_left c.args.server.now c.args.index f c.in-Some.ensures.exact c.args.chunk there, c.in_ok-gated.ensures)
+    (holds (c.args.index + 2) (left f) (chunk_at f.content.stable c.args.chunk), chunk_left c.args.server.now c.args.index f c.in-Some.ensures.exact c.args.chunk there, record { text = c.in_ok-gated.ensures.text; read = c.in_ok-gated.ensures.read })

@@ -17,4 +17,4 @@ pub returns : goal.returns
 returns c =
     let f = c.in-Some.file.now in
     let name = c.in-Some-name.name.now in
-    (file_body (c.args.index + 2) name (left f), file_left c.args.server.now c.args.index name f c.in-Some-name.ensures c.in-Some.ensures.exact, c.in_ok-gated.ensures)
+    (file_body (c.args.index + 2) name (left f), file_left c.args.server.now c.args.index name f c.in-Some-name.ensures c.in-Some.ensures.exact, record { text = c.in_ok-gated.ensures.text; read = c.in_ok-gated.ensures.read })
