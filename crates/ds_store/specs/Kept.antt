@@ -1,6 +1,7 @@
--- A data server that is kept on a disk: what its disk has, at any moment.
-use Rattle.std.specs.Prelude.{⊤, ◌≡◌, ◌⊎◌, ℕ, List, ◌++◌, Option, Some, None, Result, Ok, Err}
-use Rattle.rpc_record.specs.Stream.{one_more}
+-- A data server that is kept on two disks: what they say together, at any moment.
+use Rattle.std.specs.Prelude.{⊤, ◌≡◌, ◌⊎◌, ℕ, ◌++◌, List, Option, Some, None, Result, Ok, Err}
+use Rattle.rpc_record.specs.declared.stream.Failed.TheVariants as failed
+use Rattle.rpc_record.specs.declared.stream.Failed.{Failed}
 use Rattle.cluster_model.specs.declared.ids.NodeId.{NodeId}
 use Rattle.cluster_model.specs.declared.outbox.Outbox.{Outbox}
 use Rattle.cluster_model.specs.Server.{ServerState, Effect, server_after}
@@ -9,73 +10,109 @@ use Rattle.ds_files.specs.Posts.{IsAsBefore, entries_made}
 use Rattle.ds_files.specs.Receive.{Outcome}
 use Rattle.ds_files.specs.Records.{sent_to}
 use Rattle.store_disk.specs.Disks.{DiskLife, LeavesNow, LeavesSince}
-use Rattle.gate_log.specs.Appends.{KeepsLog, whole_log}
-use Rattle.ds_log.specs.Durable.{applied_bytes, durable, log_state, log_state_of}
+use Rattle.twin_log.specs.Twins.{TwinLog, New, Has, Bad, twin_log}
+use Rattle.twin_log.specs.KeptLogs.{KeptLogState, StandsTwin}
+use Rattle.ds_log.specs.Durable.{applied_bytes, durable, played, unbooted}
 use Rattle.ds_store.specs.declared.fault.StoreFault.{StoreFault}
 use Rattle.ds_store.specs.declared.fault.StoreFault.TheVariants.{Disk, Broken, NoMemory}
 
--- The server; where the last gate byte of its log stands; and why it is to be opened again, where it is.
+-- The server; its log; and why it is to be opened again, where it is.
 pub record KeptState : Type 0 where
   pub server : ServerState
-  pub end : ℕ
+  pub log : KeptLogState
   pub spent : Option StoreFault
 
--- what may be answered from then on: the disk failed in an earlier call, and not in this one
+-- what may be answered from then on: a disk failed in an earlier call, and not in this one
 abbrev pub IsSpentBy : Option StoreFault → Type 0
 IsSpentBy (Some Disk) = ⊥
 IsSpentBy (Some Broken) = ⊤
 IsSpentBy (Some NoMemory) = ⊤
 IsSpentBy None = ⊤
 
--- ---- what a disk says
+-- ---- what two disks say
 
--- The log on a disk with these bytes says what lasts of the server.
-abbrev pub SaysServer : ServerState → List ℕ → Type 0
-SaysServer s bytes = log_state s.number bytes ≡ Ok (durable s)
+-- The state that a log of two files says of the data server with a number; or where it is bad.
+abbrev pub said_by : ℕ → TwinLog → Result ServerState ℕ
+said_by number New = Ok (unbooted number)
+said_by number (Has generation start bodies) = played (unbooted number) start bodies
+said_by number (Bad place) = Err place
+
+abbrev pub log_says : ℕ → List ℕ → List ℕ → Result ServerState ℕ
+log_says number disk spare = said_by number (twin_log disk spare)
+
+-- The log of two disks with these bytes says what lasts of the server.
+abbrev pub SaysServer : ServerState → List ℕ → List ℕ → Type 0
+SaysServer s disk spare = log_says s.number disk spare ≡ Ok (durable s)
 
 -- It says it of the one or of the other.
-abbrev pub SaysEither : ServerState → ServerState → List ℕ → Type 0
-SaysEither before after bytes = SaysServer before bytes ⊎ SaysServer after bytes
+abbrev pub SaysEither : ServerState → ServerState → List ℕ → List ℕ → Type 0
+SaysEither before after disk spare = SaysServer before disk spare ⊎ SaysServer after disk spare
 
--- The disk holds the log of a server, all of it synced, which ends at a place.
-pub record KeepsServer (s : ServerState) (end : ℕ) (life : DiskLife) : Type 0 where
+-- ---- what crashes leave of two disks
+
+-- Whenever a crash came from the one moment to the other, it left pairs of bytes with P, the disk's and the spare's. No common clock is needed: P
+-- holds of what the one had at any of these moments with what the other had at any.
+abbrev pub LeavesBoth : Option DiskLife → Option DiskLife → Option DiskLife → Option DiskLife → (List ℕ → List ℕ → Type 0) → Type 0
+LeavesBoth None spare disk' spare' P = ⊤
+LeavesBoth (Some disk) None disk' spare' P = ⊤
+LeavesBoth (Some disk) (Some spare) disk' spare' P = LeavesSince (Some disk) disk' (λ left. LeavesSince (Some spare) spare' (P left))
+
+-- a crash now leaves pairs with P
+abbrev pub LeavesBothNow : Option DiskLife → Option DiskLife → (List ℕ → List ℕ → Type 0) → Type 0
+LeavesBothNow None spare P = ⊤
+LeavesBothNow (Some disk) None P = ⊤
+LeavesBothNow (Some disk) (Some spare) P = LeavesNow (Some disk) (λ left. LeavesNow (Some spare) (P left))
+
+-- ---- two disks that have the log of a server
+
+-- All of it is synced.
+pub record KeepsServer (s : ServerState) (log : KeptLogState) (disk spare : Option DiskLife) : Type 0 where
+  pub generation : ℕ
+  pub start : ℕ
   pub bodies : List (List ℕ)
-  pub log : KeepsLog life bodies end
-  pub says : log_state_of s.number (whole_log bodies) ≡ Ok (durable s)
+  pub stands : StandsTwin log (Has generation start bodies) disk spare
+  pub says : played (unbooted s.number) start bodies ≡ Ok (durable s)
 
--- the same of a disk that may tell nothing
-abbrev pub IsLogOf : ServerState → ℕ → Option DiskLife → Type 0
-IsLogOf s end None = ⊤
-IsLogOf s end (Some life) = KeepsServer s end life
+-- the same of disks that may tell nothing
+abbrev pub IsLogOf : ServerState → KeptLogState → Option DiskLife → Option DiskLife → Type 0
+IsLogOf s log None spare = ⊤
+IsLogOf s log (Some disk) None = ⊤
+IsLogOf s log (Some disk) (Some spare) = KeepsServer s log (Some disk) (Some spare)
 
--- unless it is to be opened again, the disk holds its log
-abbrev pub StandsOnDisk : KeptState → Option DiskLife → Type 0
-StandsOnDisk k disk = k.spent ≡ None → IsLogOf k.server k.end disk
+-- unless it is to be opened again, the disks hold its log
+abbrev pub StandsOnDisks : KeptState → Option DiskLife → Option DiskLife → Type 0
+StandsOnDisks k disk spare = k.spent ≡ None → IsLogOf k.server k.log disk spare
 
 -- ---- what a call does
 
 -- Whenever a crash comes, during a call that makes the one server of the other or behind it, it leaves the one or the other; and once it is
 -- answered, the other.
-pub record IsCrashSafe {T : Type 0} (before after : ServerState) (old : Option DiskLife) (result : Result T StoreFault) (new : Option DiskLife) : Type 0 where
-  pub since : LeavesSince old new (SaysEither before after)
-  pub answered : (x : T) → result ≡ Ok x → LeavesNow new (SaysServer after)
+pub record IsCrashSafe {T : Type 0} (before after : ServerState) (disk spare : Option DiskLife) (result : Result T StoreFault) (disk' spare' : Option DiskLife) : Type 0 where
+  pub since : LeavesBoth disk spare disk' spare' (SaysEither before after)
+  pub answered : (x : T) → result ≡ Ok x → LeavesBothNow disk' spare' (SaysServer after)
 
--- The server is the one that a call makes of it. Or: the disk failed, or it had no memory; or memory was wanted, and nothing has changed.
-abbrev pub Becomes : {T : Type 0} → ServerState → KeptState → Option DiskLife → Result T StoreFault → KeptState → Option DiskLife → Type 0
-Becomes after old disk (Ok x) new disk' = (new.server ≡ after) × (new.spent ≡ None)
-Becomes after old disk (Err Disk) new disk' = new.spent ≡ Some Broken
-Becomes after old disk (Err Broken) new disk' = ⊥
-Becomes after old disk (Err NoMemory) new disk' = (new.spent ≡ Some NoMemory) ⊎ ((new ≡ old) × (disk' ≡ disk))
+-- nothing was done to the disks
+abbrev pub AreSameDisks : Option DiskLife → Option DiskLife → Option DiskLife → Option DiskLife → Type 0
+AreSameDisks disk spare disk' spare' = (disk' ≡ disk) × (spare' ≡ spare)
+
+-- The server is the one that a call makes of it. Or: a disk failed, or it had no memory; or memory was wanted, and nothing has changed.
+abbrev pub Becomes : {T : Type 0} → ServerState → KeptState → Option DiskLife → Option DiskLife → Result T StoreFault → KeptState → Option DiskLife → Option DiskLife → Type 0
+Becomes after old disk spare (Ok x) new disk' spare' = (new.server ≡ after) × (new.spent ≡ None)
+Becomes after old disk spare (Err Disk) new disk' spare' = new.spent ≡ Some Broken
+Becomes after old disk spare (Err Broken) new disk' spare' = ⊥
+Becomes after old disk spare (Err NoMemory) new disk' spare' = (new.spent ≡ Some NoMemory) ⊎ ((new ≡ old) × AreSameDisks disk spare disk' spare')
 
 -- What a call did that makes this server of it. One that is to be opened again answers why, and nothing has changed.
-abbrev pub StepsSafely : {T : Type 0} → Option StoreFault → ServerState → KeptState → Option DiskLife → Result T StoreFault → KeptState → Option DiskLife → Type 0
-StepsSafely None after old disk result new disk' = Becomes after old disk result new disk' × IsCrashSafe old.server after disk result disk'
-StepsSafely (Some fault) after old disk result new disk' = (result ≡ Err fault) × (new ≡ old) × (disk' ≡ disk)
+abbrev pub StepsSafely : {T : Type 0} → Option StoreFault → ServerState → KeptState → Option DiskLife → Option DiskLife → Result T StoreFault → KeptState → Option DiskLife → Option DiskLife → Type 0
+StepsSafely None after old disk spare result new disk' spare' = Becomes after old disk spare result new disk' spare' × IsCrashSafe old.server after disk spare result disk' spare'
+StepsSafely (Some fault) after old disk spare result new disk' spare' = (result ≡ Err fault) × (new ≡ old) × AreSameDisks disk spare disk' spare'
 
--- the disk's count of faults after a call
-abbrev pub store_counted : {T : Type 0} → Result T StoreFault → ℕ → ℕ
-store_counted (Err Disk) n = one_more n
-store_counted result n = n
+-- a result by what the calls of the disks answered
+abbrev pub plain_fault : {T : Type 0} → Result T StoreFault → Result (Unit {0}) Failed
+plain_fault (Ok x) = Ok tt
+plain_fault (Err Disk) = Err failed.Fault
+plain_fault (Err Broken) = Ok tt
+plain_fault (Err NoMemory) = Err failed.NoMemory
 
 -- ---- parts of a call
 
@@ -97,8 +134,8 @@ SpendsBy (Err Disk) spent = spent ≡ Some Broken
 SpendsBy (Err Broken) spent = ⊥
 SpendsBy (Err NoMemory) spent = spent ≡ Some NoMemory
 
--- What appending a record did, with which the log says the server, where it said the one before: it is crash-safe, and once it is done the disk
--- holds the server's log.
-pub record LogsStep {T : Type 0} (before : ServerState) (old : KeptState) (disk : Option DiskLife) (result : Result T StoreFault) (new : KeptState) (disk' : Option DiskLife) : Type 0 where
-  pub crash : IsCrashSafe before old.server disk result disk'
-  pub kept : (x : T) → result ≡ Ok x → IsLogOf new.server new.end disk'
+-- What appending a record did, with which the log says the server, where it said the one before: whenever a crash comes it says the one or the
+-- other, and once it is done the disks hold the server's log.
+pub record LogsStep {E : Type 0} (before after : ServerState) (disk spare : Option DiskLife) (result : Result (Unit {0}) E) (log : KeptLogState) (disk' spare' : Option DiskLife) : Type 0 where
+  pub since : LeavesBoth disk spare disk' spare' (SaysEither before after)
+  pub kept : (x : Unit {0}) → result ≡ Ok x → IsLogOf after log disk' spare'

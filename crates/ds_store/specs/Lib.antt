@@ -1,4 +1,5 @@
 pub mod Kept
+pub mod Renewals
 pub mod Opens
 pub mod Reading
 pub mod Stores

@@ -3,22 +3,23 @@
 ghost use Rattle.std.specs.Prelude.{◌≡◌};
 ghost use Rattle.ds_store.specs.declared.fault.OpenCause.TheVariants as causes;
 ghost use Rattle.ds_store.specs.declared.fault.StoreFault.TheVariants as faults;
-ghost use Rattle.ds_store.specs.Opens.{cause_of};
+ghost use Rattle.ds_store.specs.Opens.{cause_of, cause_of_log};
 
 use ff_xdr::NoMemory;
 use rpc_record::Failed;
 use thiserror::Error;
+use twin_log::LogCause;
 
 /// Why a call was not done.
 #[derive(Clone, Copy, Debug, PartialEq, Eq, Error)]
 pub enum StoreFault {
-    /// The disk failed in this call: the log has it, or not. The store is to be opened again.
-    #[error("the disk failed")]
+    /// A disk failed in this call: the log has it, or not. The store is to be opened again.
+    #[error("a disk failed")]
     Disk,
-    /// The disk failed in an earlier call. The store is to be opened again.
-    #[error("the disk failed before")]
+    /// A disk failed in an earlier call. The store is to be opened again.
+    #[error("a disk failed before")]
     Broken,
-    /// Memory was wanted. Where it was the disk that wanted it, the store is to be opened again.
+    /// Memory was wanted. Where it was a disk that wanted it, or a renewal of the log, the store is to be opened again.
     #[error("memory was wanted")]
     NoMemory,
 }
@@ -34,11 +35,11 @@ impl From<NoMemory> for StoreFault {
 /// Why a log could not be opened.
 #[derive(Clone, Copy, Debug, PartialEq, Eq, Error)]
 pub enum OpenCause {
-    /// The disk failed. It may hold the next boot number.
-    #[error("the disk failed")]
+    /// A disk failed. The log may have the next boot number.
+    #[error("a disk failed")]
     Disk,
-    /// The log is bad at this byte: there begins the first record that is cut, out of its form or does not fit what stands
-    /// before it, or a gate byte is missing there.
+    /// The log is bad at this byte of the file that has it: there begins the first record that is cut, out of its form or does
+    /// not fit what stands before it, or a gate byte is missing there. At 0 too where both files have the same generation.
     #[error("the log is bad at {0}")]
     BadLog(u64),
     /// The boot number is the last that there is.
@@ -64,6 +65,18 @@ impl From<Failed> for OpenCause {
         match failed {
             Failed::Fault => OpenCause::Disk,
             Failed::NoMemory => OpenCause::NoMemory,
+        }
+    }
+}
+
+impl From<LogCause> for OpenCause {
+    ghost from_gives = { λ log cause. cause ≡ cause_of_log log };
+
+    fn from(cause: LogCause) -> OpenCause {
+        match cause {
+            LogCause::Disk => OpenCause::Disk,
+            LogCause::BadLog(place) => OpenCause::BadLog(place),
+            LogCause::NoMemory => OpenCause::NoMemory,
         }
     }
 }

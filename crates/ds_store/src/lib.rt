@@ -1,9 +1,10 @@
-//! A data server that keeps its word over crashes: each call is on its disk before it is answered.
+//! A data server that keeps its word over crashes: each call is on its disks before it is answered.
 #![tactic(auto)]
 
 mod fault;
 mod kept;
 mod opening;
+mod renewing;
 mod store;
 
 pub use fault::{OpenCause, StoreFault};

@@ -1,95 +1,57 @@
 //! Opening a log.
 
-ghost use Rattle.std.specs.Prelude.{◌≡◌, None, ◌-◌, ◌^◌, ◌<◌, ◌≤◌, Ok, Err, IfOk, length};
+ghost use Rattle.std.specs.Prelude.{◌≡◌, ◌<◌, [], None, Some, Ok, Err, IfOk};
+ghost use Rattle.cluster_model.specs.Server.{ServerState, restart_of};
+ghost use Rattle.ds_log.specs.Steady.{IsSteady};
+ghost use Rattle.twin_log.specs.LogCalls.{CountsTwins};
 ghost use Rattle.ds_store.specs.declared.fault.OpenCause.TheVariants as causes;
-ghost use Rattle.ds_store.specs.declared.opening.Reading.TheVariants.{More, Ended};
-ghost use Rattle.ds_store.specs.Opens.{LeavesOpened, LeavesRefused, OpensLog, StandsOpened, open_counted};
-ghost use Rattle.ds_store.specs.Reading.{BeginsBoot, HasLasting, ReadsLog, ReadsNext, SaysBooting, SaysBoot};
-ghost use Rattle.store_disk.specs.Disks.{LeavesSince};
+ghost use Rattle.ds_store.specs.Kept.{LeavesBoth, LogsStep};
+ghost use Rattle.ds_store.specs.Opens.{LeavesOpened, LeavesRefused, OpensLog, SaysBooting, StandsOpened, plain_open};
+ghost use Rattle.ds_store.specs.Reading.{BeginsBoot, HasLasting, ReadsLog, SaysBoot, is_of_none};
 
 use crate::fault::OpenCause;
 use crate::kept::KeptServer;
+use crate::renewing::renew;
+use ds_files::DataServer;
 use ds_log::{LogBody, Replayed};
 use ff_xdr::{NoMemory, Out, Wire};
-use gate_log::{Found, Gated, append, find_gate, make_ready};
+use gate_log::Gated;
+use rpc_record::Failed;
 use std::alloc::Global;
 use store_disk::Disk;
+use twin_log::KeptLog;
 
 /// The last boot number.
 const LAST_BOOT: u32 = u32::MAX;
 
-/// The bytes of a record before its body: the gate, and the body's length.
-const HEAD: u64 = 5;
+/// The bytes that a record has before its body.
+const HEAD: [u8; 5] = [0; 5];
 
-/// Whether there is more of a log.
-#[derive(Clone, Copy)]
-enum Reading {
-    More,
-    Ended,
-}
-
-/// A log on the way, read up to the byte `at`, where a gate byte is due.
-#[derive(Drop)]
-struct LogReader {
-    size: u64,
-    at: u64,
-    // the last record's body
-    body: Vec<u8>,
-    said: Replayed,
-}
-
-impl LogReader {
-    /// Reads the next record, and does what it says.
-    fn step<D: Disk>(&mut self, disk: &mut D) -> Result<Reading, OpenCause>
-        requires { self.old.at ≤ self.old.size }
-        ensures reads { ReadsNext self.old.size (D.told disk.old) self.old result self.new }
-        ensures size { self.new.size ≡ self.old.size }
-        ensures within { self.new.at ≤ self.new.size }
-        ensures more { result ≡ Ok More → self.old.at < self.new.at }
-        ensures ends { result ≡ Ok Ended → self.new.at < self.new.size }
-        ensures told { D.told disk.new ≡ D.told disk.old }
-        ensures faults { D.faults disk.new ≡ open_counted result (D.faults disk.old) }
-    {
-        // the disk ends where a gate byte is due
-        if self.at == self.size {
-            return Err(OpenCause::BadLog(self.at));
-        }
-        match find_gate(disk, self.size, self.at, &mut self.body)? {
-            Found::Absent | Found::Broken => Err(OpenCause::BadLog(self.at)),
-            Found::Closed => Ok(Reading::Ended),
-            Found::Opens => {
-                if !self.said.apply(&self.body)? {
-                    return Err(OpenCause::BadLog(self.at));
-                }
-                self.at += HEAD + self.body.len() as u64;
-                Ok(Reading::More)
-            }
-        }
-    }
-}
-
-/// Reads the log of the data server with a number, to its end, on a disk that has so many bytes.
+/// Reads the log of the data server with a number, from its first body to its end.
 fn read_log<D: Disk>(
     alloc: Global,
     number: u32,
-    size: u64,
+    log: &mut KeptLog,
     disk: &mut D,
-) -> Result<LogReader, OpenCause>
-    ensures reads { ReadsLog number size (D.told disk.old) result }
-    ensures within { IfOk result (λ reader. reader.at < size) }
-    ensures told { D.told disk.new ≡ D.told disk.old }
-    ensures faults { D.faults disk.new ≡ open_counted result (D.faults disk.old) }
+    spare: &mut D,
+) -> Result<Replayed, OpenCause>
+    ensures reads { ReadsLog number log.old (D.told disk.old) (D.told spare.old) result log.new }
+    ensures generation { log.new.generation ≡ log.old.generation }
+    ensures same { D.told disk.new ≡ D.told disk.old }
+    ensures same_spare { D.told spare.new ≡ D.told spare.old }
+    ensures faults { CountsTwins (plain_open result) (D.faults disk.old) (D.faults spare.old) (D.faults disk.new) (D.faults spare.new) }
 {
-    let mut reader = LogReader {
-        size,
-        at: 0,
-        body: Vec::new(alloc),
-        said: Replayed::new(alloc, number),
-    };
+    let mut said = Replayed::new(alloc, number);
+    if log.generation().is_none() {
+        return Ok(said);
+    }
+    let mut body = Vec::new(alloc);
     loop {
-        match reader.step(disk)? {
-            Reading::More => {}
-            Reading::Ended => return Ok(reader),
+        if !log.read(disk, spare, &mut body)? {
+            return Ok(said);
+        }
+        if !said.apply(&body)? {
+            return Err(OpenCause::BadLog(log.place()));
         }
     }
 }
@@ -98,52 +60,90 @@ fn read_log<D: Disk>(
 fn boot_record(alloc: Global, boot: u32) -> Result<Gated, NoMemory>
     ensures { IfOk result (λ body. SaysBoot boot body) }
 {
-    let mut body = Out::new(alloc);
-    LogBody::Boot(boot).write(&mut body)?;
-    Gated::new(alloc, body.bytes())
+    let mut out = Out::new(alloc);
+    out.raw(&HEAD)?;
+    LogBody::Boot(boot).put(&mut out)?;
+    Gated::framed(out)
 }
 
-/// Begins the next boot of the server that a log said, which ends at this byte.
+/// The files have no generation yet: they are new, or the log is one of a single file.
+fn is_of_none(log: &KeptLog) -> bool
+    ensures { result ≡ is_of_none log.now.generation }
+{
+    match log.generation() {
+        None => true,
+        Some(generation) => generation == 0,
+    }
+}
+
+/// Logs the next boot: by its record, or by a renewal where the log has no generation.
+fn log_boot<D: Disk>(
+    alloc: Global,
+    server: &DataServer,
+    log: &mut KeptLog,
+    disk: &mut D,
+    spare: &mut D,
+) -> Result<(), Failed>
+    requires steady { IsSteady server.now }
+    requires booted { 0 < server.now.clock.boot }
+    ensures logs { (said : ServerState) → HasLasting said log.old (D.told disk.old) (D.told spare.old) → restart_of said [] ≡ Some server.now → LogsStep said server.now (D.told disk.old) (D.told spare.old) result log.new (D.told disk.new) (D.told spare.new) }
+    ensures faults { CountsTwins result (D.faults disk.old) (D.faults spare.old) (D.faults disk.new) (D.faults spare.new) }
+{
+    if is_of_none(log) {
+        return renew(alloc, server, log, disk, spare);
+    }
+    let Ok(record) = boot_record(alloc, server.clock().boot) else {
+        return Err(Failed::NoMemory);
+    };
+    log.append(disk, spare, &record)
+}
+
+/// Begins the next boot of the server that a log said.
 fn begin_boot<D: Disk>(
     alloc: Global,
     said: Replayed,
-    end: u64,
+    mut log: KeptLog,
     disk: &mut D,
+    spare: &mut D,
 ) -> Result<KeptServer, OpenCause>
-    requires { end < 2 ^ 64 - 1 }
     ensures begins { BeginsBoot said result }
     ensures fresh { IfOk result (λ k. k.spent ≡ None) }
-    ensures crash { HasLasting said end (D.told disk.old) → LeavesSince (D.told disk.old) (D.told disk.new) (SaysBooting said) }
+    ensures crash { HasLasting said log (D.told disk.old) (D.told spare.old) → LeavesBoth (D.told disk.old) (D.told spare.old) (D.told disk.new) (D.told spare.new) (SaysBooting said.number (Ok said)) }
     ensures spent { result ≡ Err causes.BootsSpent → D.told disk.new ≡ D.told disk.old }
-    ensures stands { HasLasting said end (D.told disk.old) → StandsOpened result (D.told disk.new) }
-    ensures faults { D.faults disk.new ≡ open_counted result (D.faults disk.old) }
+    ensures spent_spare { result ≡ Err causes.BootsSpent → D.told spare.new ≡ D.told spare.old }
+    ensures stands { HasLasting said log (D.told disk.old) (D.told spare.old) → StandsOpened result (D.told disk.new) (D.told spare.new) }
+    ensures faults { CountsTwins (plain_open result) (D.faults disk.old) (D.faults spare.old) (D.faults disk.new) (D.faults spare.new) }
 {
-    let boot = said.boot();
-    if boot == LAST_BOOT {
+    if said.boot() == LAST_BOOT {
         return Err(OpenCause::BootsSpent);
     }
-    let message = boot_record(alloc, boot + 1)?;
     let server = said.start();
-    let end = append(disk, end, &message)?;
-    Ok(KeptServer::new(alloc, server, end))
+    log_boot(alloc, &server, &mut log, disk, spare)?;
+    Ok(KeptServer::new(alloc, server, log))
 }
 
 impl KeptServer {
-    /// Opens the log on a disk as the data server with a number: it is the one that the log says, in its next boot, which
-    /// is in the log then. Begins with a sync. A disk of at most one byte is new.
+    /// Opens the log on two disks as the data server with a number: it is the one that the log says, in its next boot, which
+    /// is in the log then. Begins with a sync of each. Where the log has no generation it is renewed: that of one file into the
+    /// other, and one of two new files into the disk.
     ///
-    /// After `OpenCause::Disk`, and where the disk wanted memory, the disk may have the next boot; opening again is
-    /// lawful. After `BadLog` and `BootsSpent` it has the same log, all of it synced.
-    pub fn open<D: Disk>(alloc: Global, number: u32, disk: &mut D) -> Result<KeptServer, OpenCause>
-        ensures opened { OpensLog number (D.told disk.old) result }
+    /// After `OpenCause::Disk`, and where a disk or a renewal wanted memory, the log may have the next boot; opening again is
+    /// lawful. After `BadLog` and `BootsSpent` both disks have their bytes, all of them synced.
+    pub fn open<D: Disk>(
+        alloc: Global,
+        number: u32,
+        disk: &mut D,
+        spare: &mut D,
+    ) -> Result<KeptServer, OpenCause>
+        ensures opened { OpensLog number (D.told disk.old) (D.told spare.old) result }
         ensures fresh { IfOk result (λ k. k.spent ≡ None) }
-        ensures crash { LeavesOpened number (D.told disk.old) (D.told disk.new) }
-        ensures refused { LeavesRefused (D.told disk.old) result (D.told disk.new) }
-        ensures stands { StandsOpened result (D.told disk.new) }
-        ensures faults { D.faults disk.new ≡ open_counted result (D.faults disk.old) }
+        ensures crash { LeavesOpened number (D.told disk.old) (D.told spare.old) (D.told disk.new) (D.told spare.new) }
+        ensures refused { LeavesRefused (D.told disk.old) (D.told spare.old) result (D.told disk.new) (D.told spare.new) }
+        ensures stands { StandsOpened result (D.told disk.new) (D.told spare.new) }
+        ensures faults { CountsTwins (plain_open result) (D.faults disk.old) (D.faults spare.old) (D.faults disk.new) (D.faults spare.new) }
     {
-        let size = make_ready(disk)?;
-        let reader = read_log(alloc, number, size, disk)?;
-        begin_boot(alloc, reader.said, reader.at, disk)
+        let mut log = KeptLog::open(alloc, disk, spare)?;
+        let said = read_log(alloc, number, &mut log, disk, spare)?;
+        begin_boot(alloc, said, log, disk, spare)
     }
 }

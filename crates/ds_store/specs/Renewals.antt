@@ -1,0 +1,44 @@
+-- A renewal: the snapshot of a server in the other file takes the log's place.
+use Rattle.std.specs.Prelude.{◌≡◌, ◌⊎◌, ℕ, ◌+◌, ◌*◌, ◌≤◌, true, List, Option, Result, Ok}
+use Rattle.rpc_record.specs.declared.stream.Failed.{Failed}
+use Rattle.cluster_model.specs.Server.{ServerState}
+use Rattle.store_disk.specs.Disks.{DiskLife}
+use Rattle.twin_log.specs.Twins.{TwinLog, opposite}
+use Rattle.twin_log.specs.KeptLogs.{IsFileOf, IsPassed, KeptLogState, RenewsTwin, has_next, next_generation}
+use Rattle.twin_log.specs.LogCalls.{OnSide, renewed_place}
+use Rattle.ds_log.specs.Durable.{durable, played, unbooted}
+use Rattle.ds_snapshot.specs.Snapshots.{AreBodiesOf, snapshot_of}
+use Rattle.ds_snapshot.specs.Sizes.{snapshot_size}
+use Rattle.ds_store.specs.Kept.{IsLogOf, KeptState}
+
+-- The bodies of the snapshot were put; a crash leaves the other file passed.
+pub record PutsAll (s : ServerState) (old : KeptLogState) (disk spare : Option DiskLife) (says : TwinLog) (result : Result (Unit {0}) Failed) (new : KeptLogState) (disk' spare' : Option DiskLife) : Type 0 where
+  pub crash : OnSide (opposite old.side) disk spare disk' spare' (IsPassed old.generation)
+  pub put : List (List ℕ)
+  pub bodies : (x : Unit {0}) → result ≡ Ok x → AreBodiesOf put (snapshot_of (durable s))
+  pub kept : (x : Unit {0}) → result ≡ Ok x → RenewsTwin new says put disk' spare'
+
+-- The bytes are those of a file of a generation, which says what lasts of the server.
+pub record SaysRenewed (s : ServerState) (generation : ℕ) (left : List ℕ) : Type 0 where
+  pub bodies : List (List ℕ)
+  pub file : IsFileOf generation (renewed_place generation) bodies left
+  pub says : played (unbooted s.number) (renewed_place generation) bodies ≡ Ok (durable s)
+
+-- A log was renewed as the server's; a crash leaves the other file passed, or with the new log.
+pub record Renews (s : ServerState) (old : KeptLogState) (disk spare : Option DiskLife) (result : Result (Unit {0}) Failed) (new : KeptLogState) (disk' spare' : Option DiskLife) : Type 0 where
+  pub crash : OnSide (opposite old.side) disk spare disk' spare' (λ left. IsPassed old.generation left ⊎ SaysRenewed s (next_generation old.generation) left)
+  pub kept : (x : Unit {0}) → result ≡ Ok x → IsLogOf s new disk' spare'
+
+-- ---- when a log is renewed
+
+-- the bytes of a file with the generation and the snapshot of the server, and with its last gate byte
+abbrev pub renewed_size : ServerState → ℕ
+renewed_size s = 18 + snapshot_size (durable s)
+
+-- A log is renewed behind an append that leaves more bytes.
+abbrev pub log_limit : ServerState → ℕ
+log_limit s = 16777216 + 2 * renewed_size s
+
+-- The file that records are appended to is no longer, unless its generation is the last.
+abbrev pub IsWithinLimit : KeptState → Type 0
+IsWithinLimit k = has_next k.log.generation ≡ true → k.log.size ≤ log_limit k.server
