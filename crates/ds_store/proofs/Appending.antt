@@ -1,78 +1,95 @@
--- A record is appended, with which the log says another server.
-use Rattle.std.proofs.Common.{◌≡◌, ℕ, List, [], ◌∷◌, ◌++◌, Option, Some, None, Result, Ok, Err, inl, inr, sym, ap, subst, ◌∙◌}
+-- A record is appended, with which the log says another server, and the log is renewed behind it.
+use Rattle.std.proofs.Common.{◌≡◌, ℕ, ◌+◌, List, [], ◌∷◌, ◌++◌, Option, Some, None, Result, Ok, Err, ◌⊎◌, inl, inr, refl, sym, ap, subst, ◌∙◌}
 use Rattle.rpc_record.specs.declared.stream.Failed.{Failed}
 use Rattle.cluster_model.specs.Server.{ServerState}
-use Rattle.store_disk.specs.Disks.{DiskLife, AllImages, LeavesSince, LeavesNow}
-use Rattle.store_disk.proofs.Leaving.{Told, told_now, told_weaker, since_none, since_weaker}
-use Rattle.store_disk.proofs.Images.{images_of}
-use Rattle.gate_log.specs.Appends.{Appends, HasEither, HoldsLog, whole_log}
-use Rattle.ds_log.specs.Durable.{applied_bytes, durable, log_state_of}
-use Rattle.ds_log.proofs.Plays.{log_push}
+use Rattle.store_disk.specs.Disks.{DiskLife, AllImages, LeavesSince}
+use Rattle.store_disk.proofs.Leaving.{Told, since_both, since_same, since_none, since_weaker, told_weaker}
+use Rattle.twin_log.specs.declared.side.Side.{Side}
+use Rattle.twin_log.specs.Twins.{TwinLog, New, Has, Bad, at_side, opposite}
+use Rattle.twin_log.specs.KeptLogs.{IsFileOf, IsPassed, KeptLogState, StandsTwin, generation_said, next_generation}
+use Rattle.twin_log.specs.LogCalls.{AppendsTwin, OnSide}
+use Rattle.twin_log.proofs.Sides.{own_same}
+use Rattle.ds_log.specs.Durable.{applied_bytes, durable, played, unbooted}
+use Rattle.ds_log.proofs.Plays.{played_push}
 use Rattle.ds_store.specs.declared.fault.StoreFault.{StoreFault}
-use Rattle.ds_store.specs.Kept.{IsCrashSafe, IsLogOf, KeepsServer, KeptState, LogsStep, SaysEither, SaysServer}
-
--- ---- a disk that holds the log of a server
-
-seen_says : (s : ServerState) (end : ℕ) (life : DiskLife) → KeepsServer s end life → SaysServer s life.now.seen
-seen_says s end life keeps = ap (log_state_of s.number) keeps.log.log ∙ keeps.says
-
-pub images : (s : ServerState) (end : ℕ) (told : Option DiskLife) → IsLogOf s end told → Told told (λ life. AllImages (SaysServer s) life.now)
-images s end None keeps = tt
-images s end (Some life) keeps = images_of (SaysServer s) life.now life.now.seen keeps.log.synced (seen_says s end life keeps)
-
-pub says_now : (s : ServerState) (end : ℕ) (told : Option DiskLife) → IsLogOf s end told → LeavesNow told (SaysServer s)
-says_now s end told keeps = told_now told (SaysServer s) (images s end told keeps)
-
-holds : (s : ServerState) (bodies : List (List ℕ)) (end : ℕ) (told : Option DiskLife) → log_state_of s.number (whole_log bodies) ≡ Ok (durable s) → HoldsLog told bodies end → IsLogOf s end told
-holds s bodies end None says log = tt
-holds s bodies end (Some life) says log = record { bodies = bodies; log = log; says = says }
-
--- a call that failed answers nothing
-pub in_part : {T : Type 0} (before after : ServerState) (old : Option DiskLife) (e : StoreFault) (new : Option DiskLife) → LeavesSince old new (SaysEither before after) → IsCrashSafe {T = T} before after old (Err e) new
-in_part before after old e new since = record { since = since; answered = λ x ok. absurd (cc (ok)) }
-
-pub logs_in_part : (before : ServerState) (old : KeptState) (disk : Option DiskLife) (e : StoreFault) (new : KeptState) (disk' : Option DiskLife) → LeavesSince disk disk' (SaysEither before old.server)
-    → LogsStep {T = Unit {0}} before old disk (Err e) new disk'
-logs_in_part before old disk e new disk' since = record { crash = in_part before old.server disk e disk' since; kept = λ x ok. absurd (cc (ok)) }
-
-pub answers : {T : Type 0} (before after : ServerState) (old : Option DiskLife) (result : Result T StoreFault) (new : Option DiskLife) (end : ℕ) → LeavesSince old new (SaysEither before after) → IsLogOf after end new
-    → IsCrashSafe before after old result new
-answers before after old result new end since keeps = record { since = since; answered = λ x ok. says_now after end new keeps }
+use Rattle.ds_store.specs.Kept.{IsCrashSafe, IsLogOf, KeepsServer, LeavesBoth, LogsStep, SaysEither, SaysServer, said_by}
+use Rattle.ds_store.specs.Renewals.{Renews, SaysRenewed}
+use Rattle.ds_store.proofs.BothDisks.{OwnSays, both_since, log_of, own_now, other_now, says_now, says_renewed, says_together}
 
 -- ---- nothing is appended
 
-pub since_nothing : (before after : ServerState) (end : ℕ) (told : Option DiskLife) → IsLogOf before end told → LeavesSince told told (SaysEither before after)
-since_nothing before after end told keeps =
-    since_none (SaysEither before after) told
-    (told_weaker told (λ life. AllImages (SaysServer before) life.now) (λ life. AllImages (SaysEither before after) life.now) (λ life all left image. inl (all left image)) (images before end told keeps))
+-- a call that failed answers nothing
+pub in_part : {T : Type 0} (before after : ServerState) (disk spare : Option DiskLife) (e : StoreFault) (disk' spare' : Option DiskLife) → LeavesBoth disk spare disk' spare' (SaysEither before after)
+    → IsCrashSafe {T = T} before after disk spare (Err e) disk' spare'
+in_part before after disk spare e disk' spare' since = record { since = since; answered = λ x ok. absurd (cc (ok)) }
+
+pub answers : {T : Type 0} (before after : ServerState) (disk spare : Option DiskLife) (result : Result T StoreFault) (disk' spare' : Option DiskLife) (log : KeptLogState)
+    → LeavesBoth disk spare disk' spare' (SaysEither before after) → IsLogOf after log disk' spare' → IsCrashSafe before after disk spare result disk' spare'
+answers before after disk spare result disk' spare' log since keeps = record { since = since; answered = λ x ok. says_now after log disk' spare' keeps }
+
+pub since_nothing : (before after : ServerState) (log : KeptLogState) (disk spare : Option DiskLife) → IsLogOf before log disk spare → LeavesBoth disk spare disk spare (SaysEither before after)
+since_nothing before after log None spare keeps = tt
+since_nothing before after log (Some d) None keeps = tt
+since_nothing before after log (Some d) (Some sp) keeps =
+    since_none _ (Some d) (λ left image. since_none _ (Some sp) (λ left_spare image_spare. inl (says_now before log (Some d) (Some sp) keeps left image left_spare image_spare)))
 
 -- what lasts is as it was
-pub same_log : (before after : ServerState) (end : ℕ) (told : Option DiskLife) → before.number ≡ after.number → durable after ≡ durable before → IsLogOf before end told → IsLogOf after end told
-same_log before after end None number lasts keeps = tt
-same_log before after end (Some life) number lasts keeps = record {
-  bodies = keeps.bodies;
-  log = keeps.log;
-  says = subst (λ (n : ℕ). log_state_of n (whole_log keeps.bodies) ≡ Ok (durable after)) number (keeps.says ∙ ap (λ (s : ServerState). Ok s) (sym lasts));
-}
+pub same_log : (before after : ServerState) (log : KeptLogState) (disk spare : Option DiskLife) → before.number ≡ after.number → durable after ≡ durable before → IsLogOf before log disk spare → IsLogOf after log disk spare
+same_log before after log None spare number lasts keeps = tt
+same_log before after log (Some d) None number lasts keeps = tt
+same_log before after log (Some d) (Some sp) number lasts keeps =
+    log_of after log keeps.generation keeps.start keeps.bodies (Some d) (Some sp) keeps.stands
+    (subst (λ (n : ℕ). played (unbooted n) keeps.start keeps.bodies ≡ Ok (durable after)) number (keeps.says ∙ ap (λ (s : ServerState). Ok s) (sym lasts)))
 
 -- ---- a record is appended
 
-module _ (before after : ServerState) (body : List ℕ) (number : before.number ≡ after.number) (made : applied_bytes (durable before) body ≡ Some (durable after)) where
-  longer : (bodies : List (List ℕ)) → log_state_of before.number (whole_log bodies) ≡ Ok (durable before) → log_state_of after.number (whole_log (bodies ++ body ∷ [])) ≡ Ok (durable after)
-  longer bodies says =
-      subst (λ (n : ℕ). log_state_of n (whole_log (bodies ++ body ∷ [])) ≡ Ok (durable after)) number (log_push before.number (durable before) (durable after) bodies body says made)
+-- the log with one body more
+pub longer : (before after : ServerState) (body : List ℕ) → before.number ≡ after.number → applied_bytes (durable before) body ≡ Some (durable after) → (start : ℕ) (bodies : List (List ℕ))
+    → played (unbooted before.number) start bodies ≡ Ok (durable before) → played (unbooted after.number) start (bodies ++ body ∷ []) ≡ Ok (durable after)
+longer before after body number made start bodies says =
+    subst (λ (n : ℕ). played (unbooted n) start (bodies ++ body ∷ []) ≡ Ok (durable after)) number (played_push (unbooted before.number) (durable before) (durable after) start bodies body says made)
 
-  either : (bodies : List (List ℕ)) → log_state_of before.number (whole_log bodies) ≡ Ok (durable before) → (left : List ℕ) → HasEither bodies (bodies ++ body ∷ []) left → SaysEither before after left
-  either bodies says left (inl is) = inl (ap (log_state_of before.number) is ∙ says)
-  either bodies says left (inr is) = inr (ap (log_state_of after.number) is ∙ longer bodies says)
+-- The file has the log without the record, or with it; or the other file has the snapshot behind it.
+module _ (before after : ServerState) (body : List ℕ) (number : before.number ≡ after.number) (made : applied_bytes (durable before) body ≡ Some (durable after))
+    (log : KeptLogState) (generation start : ℕ) (bodies : List (List ℕ)) (generation_is : log.generation ≡ Some generation) (says : played (unbooted before.number) start bodies ≡ Ok (durable before)) where
+  abbrev WithOrWithout : List ℕ → Type 0
+  WithOrWithout left = IsFileOf generation start bodies left ⊎ IsFileOf generation start (bodies ++ body ∷ []) left
 
-  module _ (end : ℕ) (result : Result ℕ Failed) where
-    pub appended_since : (old new : Option DiskLife) → IsLogOf before end old → ((bodies : List (List ℕ)) → HoldsLog old bodies end → Appends old bodies body result new) → LeavesSince old new (SaysEither before after)
-    appended_since None new keeps appends = (appends [] tt).crash
-    appended_since (Some life) new keeps appends =
-        since_weaker (HasEither keeps.bodies (keeps.bodies ++ body ∷ [])) (SaysEither before after) (Some life) new (either keeps.bodies keeps.says) (appends keeps.bodies keeps.log).crash
+  abbrev PassedOrRenewed : List ℕ → Type 0
+  PassedOrRenewed left = IsPassed log.generation left ⊎ SaysRenewed after (next_generation log.generation) left
 
-    pub appended_keeps : (old new : Option DiskLife) (next : ℕ) → IsLogOf before end old → ((bodies : List (List ℕ)) → HoldsLog old bodies end → Appends old bodies body result new) → result ≡ Ok next
-        → IsLogOf after next new
-    appended_keeps None new next keeps appends ok = subst (IsLogOf after next) (sym (appends [] tt).crash) tt
-    appended_keeps (Some life) new next keeps appends ok = holds after (keeps.bodies ++ body ∷ []) next new (longer keeps.bodies keeps.says) ((appends keeps.bodies keeps.log).kept next ok)
+  either : (left left_spare : List ℕ) → WithOrWithout (at_side log.side left left_spare) → PassedOrRenewed (at_side (opposite log.side) left left_spare) → SaysEither before after left left_spare
+  either left left_spare own (inr renewed) = inr (by_own own)
+    where
+      of_generation : SaysRenewed after (next_generation (Some generation)) (at_side (opposite log.side) left left_spare)
+      of_generation = subst (λ (g : Option ℕ). SaysRenewed after (next_generation g) (at_side (opposite log.side) left left_spare)) generation_is renewed
+
+      by_own : WithOrWithout (at_side log.side left left_spare) → SaysServer after left left_spare
+      by_own (inl file) = says_renewed after log.side (Has generation start bodies) left left_spare file of_generation
+      by_own (inr file) = says_renewed after log.side (Has generation start (bodies ++ body ∷ [])) left left_spare file of_generation
+  either left left_spare (inl file) (inl passed) =
+      let here = subst (λ (g : Option ℕ). IsPassed g (at_side (opposite log.side) left left_spare)) generation_is passed in
+      inl (ap (said_by before.number) (says_together log.side (Has generation start bodies) left left_spare file here) ∙ says)
+  either left left_spare (inr file) (inl passed) =
+      let here = subst (λ (g : Option ℕ). IsPassed g (at_side (opposite log.side) left left_spare)) generation_is passed in
+      inr (ap (said_by after.number) (says_together log.side (Has generation start (bodies ++ body ∷ [])) left left_spare file here) ∙ longer before after body number made start bodies says)
+
+  module _ (disk spare disk1 spare1 : Option DiskLife) (stands : StandsTwin log (Has generation start bodies) disk spare) (crash : OnSide log.side disk spare disk1 spare1 WithOrWithout) where
+    other_since : LeavesSince (at_side (opposite log.side) disk spare) (at_side (opposite log.side) disk1 spare1) PassedOrRenewed
+    other_since =
+        since_weaker (IsPassed log.generation) PassedOrRenewed (at_side (opposite log.side) disk spare) (at_side (opposite log.side) disk1 spare1) (λ left h. inl h)
+        (since_same (IsPassed log.generation) (at_side (opposite log.side) disk spare) (at_side (opposite log.side) disk1 spare1) crash.others (other_now log (Has generation start bodies) disk spare stands))
+
+    pub append_since : LeavesBoth disk spare disk1 spare1 (SaysEither before after)
+    append_since = both_since log.side WithOrWithout PassedOrRenewed (SaysEither before after) either disk spare disk1 spare1 crash.leaves other_since
+
+    -- and the log behind it is renewed
+    module _ (disk2 spare2 : Option DiskLife) (renewal : OnSide (opposite log.side) disk1 spare1 disk2 spare2 PassedOrRenewed) (own1 : Told (at_side log.side disk1 spare1) (λ life. AllImages WithOrWithout life.now)) where
+      own_later : LeavesSince (at_side log.side disk1 spare1) (at_side log.side disk2 spare2) WithOrWithout
+      own_later = since_same WithOrWithout (at_side log.side disk1 spare1) (at_side log.side disk2 spare2) (own_same log.side disk1 spare1 disk2 spare2 renewal.others) own1
+
+      pub renew_since : LeavesBoth disk spare disk2 spare2 (SaysEither before after)
+      renew_since =
+          both_since log.side WithOrWithout PassedOrRenewed (SaysEither before after) either disk spare disk2 spare2
+          (since_both WithOrWithout (at_side log.side disk spare) (at_side log.side disk1 spare1) (at_side log.side disk2 spare2) crash.leaves own_later)
+          (since_both PassedOrRenewed (at_side (opposite log.side) disk spare) (at_side (opposite log.side) disk1 spare1) (at_side (opposite log.side) disk2 spare2) other_since renewal.leaves)

@@ -1,5 +1,4 @@
 pub mod Numbers
+pub mod BothDisks
 pub mod Appending
 pub mod Keeping
-pub mod Records
-pub mod Booting
