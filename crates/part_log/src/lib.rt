@@ -2,6 +2,8 @@
 #![tactic(auto)]
 
 mod calls;
+mod disks;
 mod log_rows;
 
+pub use disks::{Disks, DisksAtHand};
 pub use log_rows::GateLogRows;

@@ -1,9 +1,10 @@
-//! Crashes of a store at each call of its disk.
+//! Crashes of a store at each call of its disks.
 
 ghost use Rattle.std.specs.Prelude.{◌<◌};
 
 use cluster_model::{NodeId, Outbox};
 use ds_store::{OpenFault, Store, StoreFault};
+use part_log::Disks;
 use row_words::{Answer, RowFault, Words};
 use std::alloc::Global;
 use store_disk::MemoryDisk;
@@ -42,40 +43,75 @@ fn is_answered(
     }
 }
 
-/// The disk as it is behind so many of the records, and how many of them were answered; `None` where it does not open.
+/// What two disks hold.
+#[derive(Drop)]
+struct Held {
+    disk: Vec<u8>,
+    spare: Vec<u8>,
+}
+
+impl Held {
+    /// What these hold.
+    fn of(alloc: Global, disks: &Disks) -> Result<Held, RowFault> {
+        let disk = disks.disk_bytes().to_vec(alloc)?;
+        let spare = disks.spare_bytes().to_vec(alloc)?;
+        Ok(Held { disk, spare })
+    }
+
+    /// New disks that hold the same.
+    fn disks(&self, alloc: Global) -> Result<Disks, RowFault> {
+        let disk = self.disk.to_vec(alloc)?;
+        let spare = self.spare.to_vec(alloc)?;
+        Ok(Disks::new(alloc, disk, spare)?)
+    }
+
+    /// It begins with what other disks hold.
+    fn begins_with(&self, other: &Held) -> bool {
+        self.disk.starts_with(other.disk.as_slice())
+            && self.spare.starts_with(other.spare.as_slice())
+    }
+}
+
+/// The disks of a store.
+fn closed(store: Store<MemoryDisk>) -> Disks {
+    let (disk, spare) = store.close();
+    Disks::of(disk, spare)
+}
+
+/// The disks as they are behind so many of the records, and how many of them were answered; `None` where they do not open.
 fn behind(
     alloc: Global,
-    disk: MemoryDisk,
+    disks: Disks,
     records: &[Vec<u8>],
-) -> Result<(MemoryDisk, Option<usize>), RowFault> {
-    let mut store = match Store::open(alloc, NUMBER, disk) {
+) -> Result<(Disks, Option<usize>), RowFault> {
+    let (disk, spare) = disks.into_pair();
+    let mut store = match Store::open(alloc, NUMBER, disk, spare) {
         Ok(store) => store,
-        Err(OpenFault::Disk(disk)) => return Ok((disk, None)),
+        Err(OpenFault::Disk(disk, spare)) => return Ok((Disks::of(disk, spare), None)),
         Err(_) => return Err(RowFault::Outside),
     };
     for (answered, message) in records.iter().enumerate() {
         if !is_answered(alloc, &mut store, message)? {
-            return Ok((store.close(), Some(answered)));
+            return Ok((closed(store), Some(answered)));
         }
     }
-    Ok((store.close(), Some(records.len())))
+    Ok((closed(store), Some(records.len())))
 }
 
-/// What a disk of these bytes holds behind its records, each with no fault.
-fn log_behind(alloc: Global, first: &[u8], records: &[Vec<u8>]) -> Result<Vec<u8>, RowFault> {
-    let disk = MemoryDisk::new(alloc, first.to_vec(alloc)?, Vec::new(alloc))?;
-    let (disk, _) = behind(alloc, disk, records)?;
-    Ok(disk.bytes().to_vec(alloc)?)
+/// What disks of these bytes hold behind their records, each with no fault.
+fn log_behind(alloc: Global, first: &Held, records: &[Vec<u8>]) -> Result<Held, RowFault> {
+    let (disks, _) = behind(alloc, first.disks(alloc)?, records)?;
+    Held::of(alloc, &disks)
 }
 
-/// What a disk holds once it was opened.
-fn opened(alloc: Global, bytes: &[u8]) -> Result<Vec<u8>, RowFault> {
-    log_behind(alloc, bytes, &[])
+/// What disks hold once they were opened.
+fn opened(alloc: Global, held: &Held) -> Result<Held, RowFault> {
+    log_behind(alloc, held, &[])
 }
 
-/// What a disk holds that was opened behind a crash: as if it had not been opened before the crash; or as if none, the
+/// What disks hold that were opened behind a crash: as if they had not been opened before the crash; or as if none, the
 /// first, the first two and so on of the records had been answered before it.
-fn logs(alloc: Global, first: &[u8], records: &[Vec<u8>]) -> Result<Vec<Vec<u8>>, RowFault> {
+fn logs(alloc: Global, first: &Held, records: &[Vec<u8>]) -> Result<Vec<Held>, RowFault> {
     let mut logs = Vec::new(alloc);
     logs.push(opened(alloc, first)?)?;
     for count in 0..=records.len() {
@@ -87,40 +123,35 @@ fn logs(alloc: Global, first: &[u8], records: &[Vec<u8>]) -> Result<Vec<Vec<u8>>
 
 /// What a crash left is the log of the records that were answered, or of one more. A log ends with its closed gate; behind
 /// that a crash may leave bytes, which nobody reads.
-fn is_kept(left: &[u8], answered: Option<usize>, logs: &[Vec<u8>]) -> bool {
+fn is_kept(left: &Held, answered: Option<usize>, logs: &[Held]) -> bool {
     let before = answered.map_or(0, |count| count.saturating_add(1));
     logs.iter()
         .skip(before)
         .take(2)
-        .any(|log| left.starts_with(log.as_slice()))
+        .any(|log| left.begins_with(log))
 }
 
-/// What a disk of these bytes came to, of which each call behind so many fails: what a crash by the choice left, opened
-/// again, and how many of the records were answered.
+/// What disks of these bytes came to, of which each call behind so many of its own fails: what a crash by the choice left,
+/// opened again, and how many of the records were answered.
 fn stopped(
     alloc: Global,
     calls: u64,
     choice: u32,
-    first: &[u8],
+    first: &Held,
     records: &[Vec<u8>],
-) -> Result<(Vec<u8>, Option<usize>), RowFault>
+) -> Result<(Held, Option<usize>), RowFault>
     requires { choice < 4 }
 {
-    let mut disk = MemoryDisk::new(alloc, first.to_vec(alloc)?, Vec::new(alloc))?;
-    disk.stop_after(calls);
-    let (disk, answered) = behind(alloc, disk, records)?;
-    let left = opened(alloc, disk.crash(choice)?.bytes())?;
-    Ok((left, answered))
+    let mut disks = first.disks(alloc)?;
+    disks.stop_after(calls);
+    let (disks, answered) = behind(alloc, disks, records)?;
+    let left = Held::of(alloc, &disks.crash(choice)?)?;
+    Ok((opened(alloc, &left)?, answered))
 }
 
-/// How many times a disk of these bytes stops until all records are answered, and how often what is left is not the log
-/// of the records that were answered, or of one more.
-fn counts(
-    alloc: Global,
-    choice: u32,
-    first: &[u8],
-    records: &[Vec<u8>],
-) -> Result<(u64, u64), RowFault>
+/// How often what is left is not the log of the records that were answered, or of one more, of disks that stop behind each
+/// number of calls until all are answered.
+fn lost(alloc: Global, choice: u32, first: &Held, records: &[Vec<u8>]) -> Result<u64, RowFault>
     requires { choice < 4 }
 {
     let logs = logs(alloc, first, records)?;
@@ -131,18 +162,21 @@ fn counts(
             lost = lost.saturating_add(1);
         }
         if answered == Some(records.len()) {
-            return Ok((calls, lost));
+            return Ok(lost);
         }
     }
     Err(RowFault::Outside)
 }
 
-/// `crashes CHOICE DISK RECORDS`: a disk of these bytes, of which none lie behind its closed gate, is opened and handed the
-/// records, and stops behind 0 calls, 1 call and so on, until all are answered; each time it crashes by the choice, and what is left is opened again. The answer is how
-/// many times it stopped, and how often it was not opened as the log of the records that were answered, or of one more.
+/// `crashes CHOICE DISK SPARE RECORDS`: disks of these bytes, of which none lie behind a closed gate, are opened and handed the records, and
+/// stop behind 0 calls of their own, 1 call and so on, until all are answered; each time they crash by the choice, and what is left is
+/// opened again. The answer is `Kept`, or how often it was not opened as the log of the records that were answered, or of one more.
 pub fn put_crashes(words: &mut Words<'_>, answer: &mut Answer) {
     let choice = words.number32();
-    let first = words.bytes();
+    let first = Held {
+        disk: words.bytes(),
+        spare: words.bytes(),
+    };
     let records = read_records(words);
     if choice > 3 {
         return answer.refuse();
@@ -150,11 +184,9 @@ pub fn put_crashes(words: &mut Words<'_>, answer: &mut Answer) {
     if !words.end() {
         return;
     }
-    match counts(answer.alloc(), choice, &first, &records) {
+    match lost(answer.alloc(), choice, &first, &records) {
         Err(fault) => answer.note(fault),
-        Ok((calls, lost)) => {
-            answer.number(calls);
-            answer.number(lost);
-        }
+        Ok(0) => answer.word("Kept"),
+        Ok(lost) => answer.number(lost),
     }
 }

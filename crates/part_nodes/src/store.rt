@@ -1,40 +1,25 @@
-//! A store. `disk HEX FAILING` is a disk with these bytes, all of them synced, of which the calls with these numbers fail,
-//! from 1 and with commas between them, `-` for none; `stop N` has every call fail behind so many more. `open NUMBER` opens
-//! the disk as the data server with a number: `Ok`, `Disk`, `BadLog` and the byte, or `BootsSpent`. `record FROM HEX` and
-//! `apply HEX` are as of a server, or `Disk` or `Broken`. `close` gives the disk back, and `bytes` are what it holds;
-//! `crash CHOICE` is the disk that a crash leaves: 0 without what was not synced, 1 with it, 2 with the first half of each
-//! range, 3 with bytes ff in its place. `crashes` tries all of it at each call (`crashes.rt`).
+//! A store, on the disks that `disks` of `part_log` says. `open NUMBER` opens their log as the data server with a number: `Ok`, `Disk`,
+//! `BadLog` and the byte, or `BootsSpent`. `record FROM HEX` and `apply HEX` are as of a server, or `Disk` or `Broken`;
+//! `again TIMES FROM HEX` is the record so many times, and the last answer. `close` gives the disks back. `stop CALLS` has every call of
+//! a disk fail behind so many more of its own, and `tear NUMBER CALLS CHOICE` is that, `open NUMBER`, where that went `close`, and
+//! `crash CHOICE`. `crashes` tries a stop at each call (`crashes.rt`).
 
 use crate::apply::{Applied, put_done};
 use crate::crashes::put_crashes;
 use crate::outbox::put_outbox;
-use cluster_model::Outbox;
+use cluster_model::{NodeId, Outbox};
 use ds_store::{OpenFault, Store, StoreFault};
-use ff_xdr::NoMemory;
-use row_words::{Answer, Part, RowFault, Words};
+use part_log::DisksAtHand;
+use row_words::{Answer, Part, Words};
 use std::alloc::Global;
 use store_disk::MemoryDisk;
 
-/// A store or, where it is closed, its disk.
+/// A store or, where it is closed, its disks.
 #[derive(Drop)]
 pub struct StoreRows {
     alloc: Global,
-    disk: Option<MemoryDisk>,
+    disks: DisksAtHand,
     store: Option<Store<MemoryDisk>>,
-}
-
-/// The numbers of the calls that fail.
-fn read_numbers(words: &mut Words<'_>) -> Vec<u64> {
-    let mut numbers = Vec::new(words.alloc());
-    if words.is_none() {
-        return numbers;
-    }
-    for digits in words.word().split(',') {
-        if numbers.push(words.in64(digits)).is_err() {
-            words.note(RowFault::NoMemory);
-        }
-    }
-    numbers
 }
 
 /// Why a call was not done.
@@ -53,11 +38,33 @@ fn put_record(store: &mut Store<MemoryDisk>, words: &mut Words<'_>, answer: &mut
     if !words.end() {
         return;
     }
+    put_recorded(store, from, &record, answer);
+}
+
+/// What comes of a record.
+fn put_recorded(store: &mut Store<MemoryDisk>, from: NodeId, record: &[u8], answer: &mut Answer) {
     let mut out = Outbox::new(answer.alloc());
-    match store.on_record(from, &record, &mut out) {
+    match store.on_record(from, record, &mut out) {
         Ok(()) => put_outbox(&out, answer),
         Err(fault) => put_fault(fault, answer),
     }
+}
+
+/// Hands a record to a store so many times.
+fn put_again(store: &mut Store<MemoryDisk>, words: &mut Words<'_>, answer: &mut Answer) {
+    let times = words.number32();
+    let from = words.node();
+    let record = words.bytes();
+    if !words.end() {
+        return;
+    }
+    for _time in 1..times {
+        let mut out = Outbox::new(answer.alloc());
+        if let Err(fault) = store.on_record(from, &record, &mut out) {
+            return put_fault(fault, answer);
+        }
+    }
+    put_recorded(store, from, &record, answer);
 }
 
 /// What comes of a call.
@@ -85,57 +92,41 @@ impl StoreRows {
     pub fn new(alloc: Global) -> StoreRows {
         StoreRows {
             alloc,
-            disk: None,
+            disks: DisksAtHand::new(alloc),
             store: None,
         }
     }
 
-    /// A disk that was made.
-    fn keep(&mut self, disk: Result<MemoryDisk, NoMemory>, answer: &mut Answer) {
-        match disk {
-            Err(_) => answer.want_memory(),
-            Ok(disk) => {
-                self.disk = Some(disk);
-                answer.word("Ok");
-            }
-        }
-    }
-
-    /// A new disk.
-    fn begin(&mut self, words: &mut Words<'_>, answer: &mut Answer) {
-        let bytes = words.bytes();
-        let failing = read_numbers(words);
-        if words.end() {
-            self.keep(MemoryDisk::new(self.alloc, bytes, failing), answer);
-        }
-    }
-
-    /// A disk that was not opened, and why.
+    /// Disks whose log was not opened, and why.
     fn give_back(&mut self, fault: OpenFault<MemoryDisk>, answer: &mut Answer) {
         match fault {
-            OpenFault::Disk(disk) => {
-                self.disk = Some(disk);
+            OpenFault::Disk(disk, spare) => {
+                self.disks.keep(disk, spare);
                 answer.word("Disk");
             }
-            OpenFault::BadLog { disk, place } => {
-                self.disk = Some(disk);
+            OpenFault::BadLog { disk, spare, place } => {
+                self.disks.keep(disk, spare);
                 answer.word("BadLog");
                 answer.number(place);
             }
-            OpenFault::BootsSpent(disk) => {
-                self.disk = Some(disk);
+            OpenFault::BootsSpent(disk, spare) => {
+                self.disks.keep(disk, spare);
                 answer.word("BootsSpent");
             }
-            OpenFault::NoMemory(disk) => {
-                self.disk = Some(disk);
+            OpenFault::NoMemory(disk, spare) => {
+                self.disks.keep(disk, spare);
                 answer.want_memory();
             }
         }
     }
 
-    /// Opens a disk.
-    fn open_disk(&mut self, number: u32, disk: MemoryDisk, answer: &mut Answer) {
-        match Store::open(self.alloc, number, disk) {
+    /// Opens the log of the disks, and says so.
+    fn open_as(&mut self, number: u32, answer: &mut Answer) {
+        let Some(disks) = self.disks.take() else {
+            return answer.refuse();
+        };
+        let (disk, spare) = disks.into_pair();
+        match Store::open(self.alloc, number, disk, spare) {
             Ok(store) => {
                 self.store = Some(store);
                 answer.word("Ok");
@@ -144,15 +135,23 @@ impl StoreRows {
         }
     }
 
-    /// Opens the disk.
+    /// Opens the log.
     fn open(&mut self, words: &mut Words<'_>, answer: &mut Answer) {
         let number = words.number32();
-        if !words.end() {
-            return;
+        if words.end() {
+            self.open_as(number, answer);
         }
-        match self.disk.take() {
-            Some(disk) => self.open_disk(number, disk, answer),
-            None => answer.refuse(),
+    }
+
+    /// Keeps the disks of the store, where one is open: whether one was.
+    fn keep_disks(&mut self) -> bool {
+        match self.store.take() {
+            None => false,
+            Some(store) => {
+                let (disk, spare) = store.close();
+                self.disks.keep(disk, spare);
+                true
+            }
         }
     }
 
@@ -161,63 +160,34 @@ impl StoreRows {
         if !words.end() {
             return;
         }
-        match self.store.take() {
-            Some(store) => self.keep(Ok(store.close()), answer),
-            None => answer.refuse(),
+        if self.keep_disks() {
+            answer.word("Ok");
+        } else {
+            answer.refuse();
         }
     }
 
-    /// Has the disk crash.
-    fn crash(&mut self, words: &mut Words<'_>, answer: &mut Answer) {
-        let choice = words.number32();
-        if choice > 3 {
-            return answer.refuse();
-        }
-        if !words.end() {
-            return;
-        }
-        match self.disk.take() {
-            Some(disk) => self.keep(disk.crash(choice), answer),
-            None => answer.refuse(),
-        }
-    }
-
-    /// What the disk holds.
-    fn put_bytes(&self, words: &mut Words<'_>, answer: &mut Answer) {
-        if !words.end() {
-            return;
-        }
-        match &self.disk {
-            Some(disk) => answer.bytes(disk.bytes()),
-            None => answer.refuse(),
-        }
-    }
-
-    /// Every call of the disk fails behind so many more.
+    /// Every call of a disk at hand fails behind so many more of its own.
     fn stop(&mut self, words: &mut Words<'_>, answer: &mut Answer) {
         let calls = words.number64();
-        if !words.end() {
-            return;
-        }
-        match &mut self.disk {
-            None => answer.refuse(),
-            Some(disk) => {
-                disk.stop_after(calls);
-                answer.word("Ok");
-            }
+        if words.end() {
+            self.disks.stop_by(calls, answer);
         }
     }
 
-    /// A call on the disk.
-    fn on_disk(&mut self, name: &str, words: &mut Words<'_>, answer: &mut Answer) {
-        match name {
-            "disk" => self.begin(words, answer),
-            "open" => self.open(words, answer),
-            "crash" => self.crash(words, answer),
-            "bytes" => self.put_bytes(words, answer),
-            "stop" => self.stop(words, answer),
-            _ => answer.refuse(),
+    /// The disks stop behind so many calls of their own, the log is opened and closed again, and they crash.
+    fn tear(&mut self, words: &mut Words<'_>, answer: &mut Answer) {
+        let number = words.number32();
+        let calls = words.number64();
+        let choice = words.number32();
+        if !words.end() {
+            return;
         }
+        let mut unsaid = Answer::new(self.alloc);
+        self.disks.stop_by(calls, &mut unsaid);
+        self.open_as(number, &mut unsaid);
+        self.keep_disks();
+        self.disks.crash_by(choice, answer);
     }
 
     /// A call on the store.
@@ -227,7 +197,21 @@ impl StoreRows {
         };
         match name {
             "record" => put_record(store, words, answer),
+            "again" => put_again(store, words, answer),
             _ => put_applied(store, words, answer),
+        }
+    }
+
+    /// A call on the disks, where no store is open.
+    fn on_disks(&mut self, name: &str, words: &mut Words<'_>, answer: &mut Answer) {
+        if self.store.is_some() {
+            return answer.refuse();
+        }
+        match name {
+            "open" => self.open(words, answer),
+            "stop" => self.stop(words, answer),
+            "tear" => self.tear(words, answer),
+            _ => self.disks.call(name, words, answer),
         }
     }
 }
@@ -238,8 +222,8 @@ impl Part for StoreRows {
         match name {
             "crashes" => put_crashes(words, answer),
             "close" => self.close(words, answer),
-            "record" | "apply" => self.on_store(name, words, answer),
-            _ => self.on_disk(name, words, answer),
+            "record" | "again" | "apply" => self.on_store(name, words, answer),
+            _ => self.on_disks(name, words, answer),
         }
     }
 }
