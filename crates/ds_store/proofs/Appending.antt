@@ -52,10 +52,10 @@ longer before after body number made start bodies says =
 -- The file has the log without the record, or with it; or the other file has the snapshot behind it.
 module _ (before after : ServerState) (body : List ℕ) (number : before.number ≡ after.number) (made : applied_bytes (durable before) body ≡ Some (durable after))
     (log : KeptLogState) (generation start : ℕ) (bodies : List (List ℕ)) (generation_is : log.generation ≡ Some generation) (says : played (unbooted before.number) start bodies ≡ Ok (durable before)) where
-  abbrev WithOrWithout : List ℕ → Type 0
+  abbrev pub WithOrWithout : List ℕ → Type 0
   WithOrWithout left = IsFileOf generation start bodies left ⊎ IsFileOf generation start (bodies ++ body ∷ []) left
 
-  abbrev PassedOrRenewed : List ℕ → Type 0
+  abbrev pub PassedOrRenewed : List ℕ → Type 0
   PassedOrRenewed left = IsPassed log.generation left ⊎ SaysRenewed after (next_generation log.generation) left
 
   either : (left left_spare : List ℕ) → WithOrWithout (at_side log.side left left_spare) → PassedOrRenewed (at_side (opposite log.side) left left_spare) → SaysEither before after left left_spare
@@ -93,3 +93,12 @@ module _ (before after : ServerState) (body : List ℕ) (number : before.number 
           both_since log.side WithOrWithout PassedOrRenewed (SaysEither before after) either disk spare disk2 spare2
           (since_both WithOrWithout (at_side log.side disk spare) (at_side log.side disk1 spare1) (at_side log.side disk2 spare2) crash.leaves own_later)
           (since_both PassedOrRenewed (at_side (opposite log.side) disk spare) (at_side (opposite log.side) disk1 spare1) (at_side (opposite log.side) disk2 spare2) other_since renewal.leaves)
+
+-- the same step, as it is answered
+pub logs_as : {E F : Type 0} (before after : ServerState) (disk spare : Option DiskLife) (result : Result (Unit {0}) E) (answer : Result (Unit {0}) F) (log : KeptLogState) (disk' spare' : Option DiskLife)
+    → ((x : Unit {0}) → answer ≡ Ok x → result ≡ Ok x) → LogsStep before after disk spare result log disk' spare' → LogsStep before after disk spare answer log disk' spare'
+logs_as before after disk spare result answer log disk' spare' done h = record { since = h.since; kept = λ x is. h.kept x (done x is) }
+
+pub logs_at : {E : Type 0} (before after : ServerState) (disk spare : Option DiskLife) (result : Result (Unit {0}) E) (log last : KeptLogState) (disk' spare' : Option DiskLife) → last ≡ log
+    → LogsStep before after disk spare result log disk' spare' → LogsStep before after disk spare result last disk' spare'
+logs_at before after disk spare result log last disk' spare' same h = subst (λ (l : KeptLogState). LogsStep before after disk spare result l disk' spare') (sym same) h

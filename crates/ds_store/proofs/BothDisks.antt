@@ -94,7 +94,7 @@ pub says_renewed : (s : ServerState) (log_side : Side) (says : TwinLog) (left le
 says_renewed s log_side says left left_spare own renewed =
     let next = next_generation (generation_said says) in
     let passed : IsPassed (Some next) (at_side (opposite (opposite log_side)) left left_spare) =
-        subst (IsPassed (Some next)) (sym (at_twice log_side left left_spare)) (passed_next says (at_side log_side left left_spare) own) in
+    subst (IsPassed (Some next)) (sym (at_twice log_side left left_spare)) (passed_next says (at_side log_side left left_spare) own) in
     ap (said_by s.number) (says_own (opposite log_side) next _ renewed.bodies left left_spare renewed.file passed) ∙ renewed.says
 
 -- ---- two disks that hold a server's log

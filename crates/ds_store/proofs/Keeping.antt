@@ -17,7 +17,8 @@ use Rattle.ds_store.specs.declared.fault.StoreFault.TheVariants.{Disk, Broken, N
 use Rattle.ds_store.specs.Kept.{AreSameDisks, Becomes, IsCrashSafe, IsLogOf, IsRecordOf, KeptState, LogsStep, SpendsBy, StandsOnDisks, StepsSafely}
 use Rattle.ds_store.proofs.Numbers.{number_after}
 use Rattle.twin_log.specs.KeptLogs.{KeptLogState}
-use Rattle.ds_store.proofs.Appending.{answers, in_part, since_nothing}
+use Rattle.ds_store.proofs.Appending.{answers, in_part, same_log, since_nothing}
+use Rattle.ds_store.proofs.BothDisks.{says_now}
 
 -- ---- the record of a step
 
@@ -37,7 +38,7 @@ boot_after s (OnFile index op) can = by_file (slice_get s.files index) refl
   where
     by_file : (o : Option StoredFile) → slice_get s.files index ≡ o → (on_file s index op o).clock.boot ≡ s.clock.boot
     by_file None is = refl
-    by_file (Some f) is = same_boot s.clock op s f (can.ready.1.0 f is)
+    by_file (Some f) is = same_boot s.clock op s f (can.ready.1 f is)
 
 -- so one that has begun goes on in it
 pub booted_on : (server old new : ServerState) (what : Effect) → server ≡ old → 0 < server.clock.boot → CanDo old what → new ≡ server_after server what → 0 < new.clock.boot
@@ -72,6 +73,22 @@ pub stays : {T : Type 0} (after : ServerState) (k : KeptState) (disk spare : Opt
 stays after k disk spare result none stands is =
     subst (λ (r : Result _ StoreFault). StepsSafely k.spent after k disk spare r k disk spare) (sym is)
     (steps after after k disk spare (Err NoMemory) k disk spare refl none (inr (refl, (refl, refl))) (in_part k.server after disk spare NoMemory disk spare (since_nothing k.server after k.log disk spare (stands none))))
+
+pub not_done : {T : Type 0} (after : ServerState) (k : KeptState) (disk spare : Option DiskLife) (result : Result T StoreFault) (e : StoreFault) → k.spent ≡ None → StandsOnDisks k disk spare → result ≡ Err e
+    → IsCrashSafe k.server after disk spare result disk spare
+not_done after k disk spare result e none stands is =
+    subst (λ (r : Result _ StoreFault). IsCrashSafe k.server after disk spare r disk spare) (sym is) (in_part k.server after disk spare e disk spare (since_nothing k.server after k.log disk spare (stands none)))
+
+-- nothing of it is to be logged
+pub none_logged : {T : Type 0} (inside k : KeptState) (what : Effect) (disk spare : Option DiskLife) (result : Result T StoreFault) → inside ≡ k → k.spent ≡ None → StandsOnDisks k disk spare → IsRecordOf inside.server what None
+    → IsCrashSafe k.server (server_after k.server what) disk spare result disk spare
+none_logged inside k what disk spare result same none stands is_record =
+    let lasts = subst (λ (b : KeptState). IsRecordOf b.server what None) same is_record in
+    let after = server_after k.server what in
+    record {
+      since = since_nothing k.server after k.log disk spare (stands none);
+      answered = λ x ok. says_now after k.log disk spare (same_log k.server after k.log disk spare (number_after k.server what) lasts (stands none));
+    }
 
 -- ---- what is to be done is done in memory, and then its record is logged
 

@@ -1,4 +1,9 @@
 pub mod Numbers
 pub mod BothDisks
 pub mod Appending
+pub mod Logging
 pub mod Keeping
+pub mod Snapshots
+pub mod Readings
+pub mod Booting
+pub mod Opened

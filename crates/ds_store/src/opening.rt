@@ -3,7 +3,7 @@
 ghost use Rattle.std.specs.Prelude.{◌≡◌, ◌<◌, [], None, Some, Ok, Err, IfOk};
 ghost use Rattle.cluster_model.specs.Server.{ServerState, restart_of};
 ghost use Rattle.ds_log.specs.Steady.{IsSteady};
-ghost use Rattle.twin_log.specs.LogCalls.{CountsTwins};
+ghost use Rattle.twin_log.specs.LogCalls.{CountsTwins, TellAsBefore};
 ghost use Rattle.ds_store.specs.declared.fault.OpenCause.TheVariants as causes;
 ghost use Rattle.ds_store.specs.Kept.{LeavesBoth, LogsStep};
 ghost use Rattle.ds_store.specs.Opens.{LeavesOpened, LeavesRefused, OpensLog, SaysBooting, StandsOpened, plain_open};
@@ -36,7 +36,6 @@ fn read_log<D: Disk>(
     spare: &mut D,
 ) -> Result<Replayed, OpenCause>
     ensures reads { ReadsLog number log.old (D.told disk.old) (D.told spare.old) result log.new }
-    ensures generation { log.new.generation ≡ log.old.generation }
     ensures same { D.told disk.new ≡ D.told disk.old }
     ensures same_spare { D.told spare.new ≡ D.told spare.old }
     ensures faults { CountsTwins (plain_open result) (D.faults disk.old) (D.faults spare.old) (D.faults disk.new) (D.faults spare.new) }
@@ -87,6 +86,7 @@ fn log_boot<D: Disk>(
     requires steady { IsSteady server.now }
     requires booted { 0 < server.now.clock.boot }
     ensures logs { (said : ServerState) → HasLasting said log.old (D.told disk.old) (D.told spare.old) → restart_of said [] ≡ Some server.now → LogsStep said server.now (D.told disk.old) (D.told spare.old) result log.new (D.told disk.new) (D.told spare.new) }
+    ensures tells { TellAsBefore (D.told disk.old) (D.told spare.old) (D.told disk.new) (D.told spare.new) }
     ensures faults { CountsTwins result (D.faults disk.old) (D.faults spare.old) (D.faults disk.new) (D.faults spare.new) }
 {
     if is_of_none(log) {
@@ -112,6 +112,7 @@ fn begin_boot<D: Disk>(
     ensures spent { result ≡ Err causes.BootsSpent → D.told disk.new ≡ D.told disk.old }
     ensures spent_spare { result ≡ Err causes.BootsSpent → D.told spare.new ≡ D.told spare.old }
     ensures stands { HasLasting said log (D.told disk.old) (D.told spare.old) → StandsOpened result (D.told disk.new) (D.told spare.new) }
+    ensures tells { TellAsBefore (D.told disk.old) (D.told spare.old) (D.told disk.new) (D.told spare.new) }
     ensures faults { CountsTwins (plain_open result) (D.faults disk.old) (D.faults spare.old) (D.faults disk.new) (D.faults spare.new) }
 {
     if said.boot() == LAST_BOOT {

@@ -3,7 +3,7 @@
 ghost use Rattle.std.specs.Prelude.{◌≡◌, ◌≢◌, ◌<◌, ◌≤◌, ◌-◌, ◌^◌, [], None, OnOk, IfSome};
 ghost use Rattle.twin_log.specs.Twins.{TwinLog};
 ghost use Rattle.twin_log.specs.KeptLogs.{RenewsTwin, StandsTwin};
-ghost use Rattle.twin_log.specs.LogCalls.{CountsTwins};
+ghost use Rattle.twin_log.specs.LogCalls.{CountsTwins, TellAsBefore};
 ghost use Rattle.ds_log.specs.Steady.{IsSteady};
 ghost use Rattle.ds_store.specs.Renewals.{PutsAll, Renews, log_limit};
 
@@ -44,6 +44,7 @@ fn put_snapshot<D: Disk>(
     ensures puts { (says : TwinLog) → RenewsTwin log.old says [] (D.told disk.old) (D.told spare.old) → PutsAll server.now log.old (D.told disk.old) (D.told spare.old) says result log.new (D.told disk.new) (D.told spare.new) }
     ensures renews { OnOk result (log.new.renewed ≢ None) }
     ensures keeps { log.new ≡ record log.old { renewed = log.new.renewed } }
+    ensures tells { TellAsBefore (D.told disk.old) (D.told spare.old) (D.told disk.new) (D.told spare.new) }
     ensures faults { CountsTwins result (D.faults disk.old) (D.faults spare.old) (D.faults disk.new) (D.faults spare.new) }
 {
     let mut snapshot = Snapshot::new();
@@ -72,6 +73,7 @@ pub(crate) fn renew<D: Disk>(
     requires booted { 0 < server.now.clock.boot }
     requires room { IfSome log.old.generation (λ generation. generation < 2 ^ 64 - 1) }
     ensures renews { (says : TwinLog) → StandsTwin log.old says (D.told disk.old) (D.told spare.old) → Renews server.now log.old (D.told disk.old) (D.told spare.old) result log.new (D.told disk.new) (D.told spare.new) }
+    ensures tells { TellAsBefore (D.told disk.old) (D.told spare.old) (D.told disk.new) (D.told spare.new) }
     ensures faults { CountsTwins result (D.faults disk.old) (D.faults spare.old) (D.faults disk.new) (D.faults spare.new) }
 {
     log.begin(disk, spare)?;
