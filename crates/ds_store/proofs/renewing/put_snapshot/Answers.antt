@@ -1,4 +1,4 @@
-use Rattle.std.proofs.Common.{refl, ap, ◌∙◌}
+use Rattle.std.proofs.Common.{ℕ, List, Option, Ok, refl, ap, subst, ◌∙◌}
 use Rattle.std.proofs.lemmas.Result.{err_from_is_err_and}
 use Rattle.twin_log.specs.KeptLogs.{KeptLogState}
 use Rattle.twin_log.proofs.Sides.{tell_both}
@@ -46,5 +46,6 @@ loop-next-preserved g c = record {
   puts = λ says renews.
       puts_on c.args.server.now c.args.log.now (g.D.Disk.told c.args.disk.now) (g.D.Disk.told c.args.spare.now) says c.loop-next.snapshot c.loop-next.log (g.D.Disk.told c.loop-next.disk) (g.D.Disk.told c.loop-next.spare)
       (c.loop-next.invariant.puts says renews) c.loop-next.invariant.same c.in-Some.body c.put.result c.put.new.self (g.D.Disk.told c.put.new.disk) (g.D.Disk.told c.put.new.spare) c.put.ensures.puts c.in_ok-put.field-0 c.in_ok-put.was
-      c.next.new.self ?;
+      c.next.new.self
+      (subst (λ (o : Option (List ℕ)). GivesBody (bodies_from c.loop-next.snapshot (durable c.args.server.now)) (Ok o) (bodies_from c.next.new.self (durable c.args.server.now))) c.in-Some.is c.in-Ok.ensures.next);
 }
