@@ -191,7 +191,7 @@ impl<D: Disk + Drop> GateLog<D> {
         ensures reads { ReadsGateLog self.old result into.new.items self.new }
         ensures answers { AnswersLog self.old.spent self.old result self.new }
         ensures on { result ≡ Ok true → self.old.log.next < self.new.log.next }
-        ensures within { self.new.log.next ≤ self.new.log.size }
+        ensures within { OnOk result (self.new.log.next ≤ self.new.log.size) }
         ensures size { self.new.log.size ≡ self.old.log.size }
         ensures same { self.new.disk ≡ self.old.disk }
         ensures same_spare { self.new.spare ≡ self.old.spare }
