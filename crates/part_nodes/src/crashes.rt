@@ -1,7 +1,8 @@
-//! Crashes of a store at each call of its disk.
+//! Crashes of a store at each call of its disks.
 
 ghost use Rattle.std.specs.Prelude.{◌<◌};
 
+use crate::disks::Disks;
 use cluster_model::{NodeId, Outbox};
 use ds_store::{OpenFault, Store, StoreFault};
 use row_words::{Answer, RowFault, Words};
@@ -11,7 +12,7 @@ use store_disk::MemoryDisk;
 /// The number of the data server.
 const NUMBER: u32 = 1;
 
-/// More calls of the disk than a trial may make.
+/// More calls of a disk than a trial may make.
 const MOST_CALLS: u64 = 100_000;
 
 /// Records of the metadata server, with commas between them.
@@ -42,40 +43,69 @@ fn is_answered(
     }
 }
 
-/// The disk as it is behind so many of the records, and how many of them were answered; `None` where it does not open.
+/// What a disk and a spare hold.
+#[derive(Drop)]
+struct Held {
+    disk: Vec<u8>,
+    spare: Vec<u8>,
+}
+
+impl Held {
+    /// What these hold.
+    fn of(alloc: Global, disks: &Disks) -> Result<Held, RowFault> {
+        let disk = disks.disk.bytes().to_vec(alloc)?;
+        let spare = disks.spare.bytes().to_vec(alloc)?;
+        Ok(Held { disk, spare })
+    }
+
+    /// Disks that hold this, of which no call fails.
+    fn on_disks(&self, alloc: Global) -> Result<Disks, RowFault> {
+        let disk = self.disk.to_vec(alloc)?;
+        let spare = self.spare.to_vec(alloc)?;
+        let (never, neither) = (Vec::new(alloc), Vec::new(alloc));
+        Ok(Disks::new(alloc, disk, never, spare, neither)?)
+    }
+
+    /// Each begins with what the one of the log holds.
+    fn begins_with(&self, log: &Held) -> bool {
+        self.disk.starts_with(log.disk.as_slice()) && self.spare.starts_with(log.spare.as_slice())
+    }
+}
+
+/// The disks as they are behind so many of the records, and how many of them were answered; `None` where they do not open.
 fn behind(
     alloc: Global,
-    disk: MemoryDisk,
+    disks: Disks,
     records: &[Vec<u8>],
-) -> Result<(MemoryDisk, Option<usize>), RowFault> {
-    let mut store = match Store::open(alloc, NUMBER, disk) {
+) -> Result<(Disks, Option<usize>), RowFault> {
+    let mut store = match Store::open(alloc, NUMBER, disks.disk, disks.spare) {
         Ok(store) => store,
-        Err(OpenFault::Disk(disk)) => return Ok((disk, None)),
+        Err(OpenFault::Disk(disk, spare)) => return Ok((Disks { disk, spare }, None)),
         Err(_) => return Err(RowFault::Outside),
     };
     for (answered, message) in records.iter().enumerate() {
         if !is_answered(alloc, &mut store, message)? {
-            return Ok((store.close(), Some(answered)));
+            return Ok((Disks::of(store), Some(answered)));
         }
     }
-    Ok((store.close(), Some(records.len())))
+    Ok((Disks::of(store), Some(records.len())))
 }
 
-/// What a disk of these bytes holds behind its records, each with no fault.
-fn log_behind(alloc: Global, first: &[u8], records: &[Vec<u8>]) -> Result<Vec<u8>, RowFault> {
-    let disk = MemoryDisk::new(alloc, first.to_vec(alloc)?, Vec::new(alloc))?;
-    let (disk, _) = behind(alloc, disk, records)?;
-    Ok(disk.bytes().to_vec(alloc)?)
+/// What disks that held this hold behind the records, each with no fault.
+fn log_behind(alloc: Global, first: &Held, records: &[Vec<u8>]) -> Result<Held, RowFault> {
+    let disks = first.on_disks(alloc)?;
+    let (disks, _) = behind(alloc, disks, records)?;
+    Held::of(alloc, &disks)
 }
 
-/// What a disk holds once it was opened.
-fn opened(alloc: Global, bytes: &[u8]) -> Result<Vec<u8>, RowFault> {
-    log_behind(alloc, bytes, &[])
+/// What disks hold once they were opened.
+fn opened(alloc: Global, held: &Held) -> Result<Held, RowFault> {
+    log_behind(alloc, held, &[])
 }
 
-/// What a disk holds that was opened behind a crash: as if it had not been opened before the crash; or as if none, the
+/// What disks hold that were opened behind a crash: as if they had not been opened before the crash; or as if none, the
 /// first, the first two and so on of the records had been answered before it.
-fn logs(alloc: Global, first: &[u8], records: &[Vec<u8>]) -> Result<Vec<Vec<u8>>, RowFault> {
+fn logs(alloc: Global, first: &Held, records: &[Vec<u8>]) -> Result<Vec<Held>, RowFault> {
     let mut logs = Vec::new(alloc);
     logs.push(opened(alloc, first)?)?;
     for count in 0..=records.len() {
@@ -87,47 +117,65 @@ fn logs(alloc: Global, first: &[u8], records: &[Vec<u8>]) -> Result<Vec<Vec<u8>>
 
 /// What a crash left is the log of the records that were answered, or of one more. A log ends with its closed gate; behind
 /// that a crash may leave bytes, which nobody reads.
-fn is_kept(left: &[u8], answered: Option<usize>, logs: &[Vec<u8>]) -> bool {
+fn is_kept(left: &Held, answered: Option<usize>, logs: &[Held]) -> bool {
     let before = answered.map_or(0, |count| count.saturating_add(1));
     logs.iter()
         .skip(before)
         .take(2)
-        .any(|log| left.starts_with(log.as_slice()))
+        .any(|log| left.begins_with(log))
 }
 
-/// What a disk of these bytes came to, of which each call behind so many fails: what a crash by the choice left, opened
-/// again, and how many of the records were answered.
+/// One of the two disks.
+#[derive(Clone, Copy)]
+enum Which {
+    First,
+    Other,
+}
+
+/// Every call of one of the disks fails behind so many.
+fn stop_one(which: Which, calls: u64, disks: &mut Disks) {
+    match which {
+        Which::First => disks.disk.stop_after(calls),
+        Which::Other => disks.spare.stop_after(calls),
+    }
+}
+
+/// What disks that held this came to, of which each call of the one behind so many fails: what a crash by the choice left,
+/// opened again, and how many of the records were answered.
 fn stopped(
     alloc: Global,
+    which: Which,
     calls: u64,
     choice: u32,
-    first: &[u8],
+    first: &Held,
     records: &[Vec<u8>],
-) -> Result<(Vec<u8>, Option<usize>), RowFault>
+) -> Result<(Held, Option<usize>), RowFault>
     requires { choice < 4 }
 {
-    let mut disk = MemoryDisk::new(alloc, first.to_vec(alloc)?, Vec::new(alloc))?;
-    disk.stop_after(calls);
-    let (disk, answered) = behind(alloc, disk, records)?;
-    let left = opened(alloc, disk.crash(choice)?.bytes())?;
+    let mut disks = first.on_disks(alloc)?;
+    stop_one(which, calls, &mut disks);
+    let (disks, answered) = behind(alloc, disks, records)?;
+    let crashed = disks.crash(choice)?;
+    let left = opened(alloc, &Held::of(alloc, &crashed)?)?;
     Ok((left, answered))
 }
 
-/// How many times a disk of these bytes stops until all records are answered, and how often what is left is not the log
-/// of the records that were answered, or of one more.
+/// How many times the one of the disks that held this stops until all records are answered, and how often what is left is
+/// not the log of the records that were answered, or of one more.
 fn counts(
     alloc: Global,
+    which: Which,
     choice: u32,
-    first: &[u8],
+    first: &Held,
     records: &[Vec<u8>],
+    logs: &[Held],
 ) -> Result<(u64, u64), RowFault>
     requires { choice < 4 }
 {
-    let logs = logs(alloc, first, records)?;
     let mut lost = 0_u64;
     for calls in 0..MOST_CALLS {
-        let (left, answered) = stopped(alloc, calls, choice, first, records)?;
-        if !is_kept(&left, answered, &logs) {
+        let (left, answered) = stopped(alloc, which, calls, choice, first, records)?;
+        if !is_kept(&left, answered, logs) {
             lost = lost.saturating_add(1);
         }
         if answered == Some(records.len()) {
@@ -137,12 +185,29 @@ fn counts(
     Err(RowFault::Outside)
 }
 
-/// `crashes CHOICE DISK RECORDS`: a disk of these bytes, of which none lie behind its closed gate, is opened and handed the
-/// records, and stops behind 0 calls, 1 call and so on, until all are answered; each time it crashes by the choice, and what is left is opened again. The answer is how
-/// many times it stopped, and how often it was not opened as the log of the records that were answered, or of one more.
+/// The same of the one and then of the other.
+fn both_counts(
+    alloc: Global,
+    choice: u32,
+    first: &Held,
+    records: &[Vec<u8>],
+) -> Result<(u64, u64), RowFault>
+    requires { choice < 4 }
+{
+    let logs = logs(alloc, first, records)?;
+    let (calls, lost) = counts(alloc, Which::First, choice, first, records, &logs)?;
+    let (more, worse) = counts(alloc, Which::Other, choice, first, records, &logs)?;
+    Ok((calls.saturating_add(more), lost.saturating_add(worse)))
+}
+
+/// `crashes CHOICE DISK RECORDS`: a disk of these bytes, of which none lie behind its closed gate, and an empty spare are
+/// opened and handed the records, and the disk stops behind 0 calls, 1 call and so on, until all are answered, and then the
+/// spare; each time both crash by the choice, and what is left is opened again. The answer is how many times one stopped, and
+/// how often the two were not opened as the log of the records that were answered, or of one more.
 pub fn put_crashes(words: &mut Words<'_>, answer: &mut Answer) {
     let choice = words.number32();
-    let first = words.bytes();
+    let disk = words.bytes();
+    let spare = Vec::new(words.alloc());
     let records = read_records(words);
     if choice > 3 {
         return answer.refuse();
@@ -150,7 +215,7 @@ pub fn put_crashes(words: &mut Words<'_>, answer: &mut Answer) {
     if !words.end() {
         return;
     }
-    match counts(answer.alloc(), choice, &first, &records) {
+    match both_counts(answer.alloc(), choice, &Held { disk, spare }, &records) {
         Err(fault) => answer.note(fault),
         Ok((calls, lost)) => {
             answer.number(calls);

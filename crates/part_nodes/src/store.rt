@@ -1,12 +1,14 @@
 //! A store. `disk HEX FAILING` is a disk with these bytes, all of them synced, of which the calls with these numbers fail,
-//! from 1 and with commas between them, `-` for none; `stop N` has every call fail behind so many more. `open NUMBER` opens
-//! the disk as the data server with a number: `Ok`, `Disk`, `BadLog` and the byte, or `BootsSpent`. `record FROM HEX` and
-//! `apply HEX` are as of a server, or `Disk` or `Broken`. `close` gives the disk back, and `bytes` are what it holds;
-//! `crash CHOICE` is the disk that a crash leaves: 0 without what was not synced, 1 with it, 2 with the first half of each
+//! from 1 and with commas between them, `-` for none, and an empty spare; `disks HEX FAILING HEX FAILING` are a disk and a
+//! spare. `stop N` has every call of either fail behind so many more of its own. `open NUMBER` opens the log that they have
+//! as the data server with a number: `Ok`, `Disk`, `BadLog` and the byte, or `BootsSpent`. `record FROM HEX` and
+//! `apply HEX` are as of a server, or `Disk` or `Broken`. `close` gives the disks back, and `bytes` are what the two hold;
+//! `crash CHOICE` are the disks that a crash leaves: 0 without what was not synced, 1 with it, 2 with the first half of each
 //! range, 3 with bytes ff in its place. `crashes` tries all of it at each call (`crashes.rt`).
 
 use crate::apply::{Applied, put_done};
 use crate::crashes::put_crashes;
+use crate::disks::Disks;
 use crate::outbox::put_outbox;
 use cluster_model::Outbox;
 use ds_store::{OpenFault, Store, StoreFault};
@@ -15,11 +17,11 @@ use row_words::{Answer, Part, RowFault, Words};
 use std::alloc::Global;
 use store_disk::MemoryDisk;
 
-/// A store or, where it is closed, its disk.
+/// A store or, where it is closed, its disks.
 #[derive(Drop)]
 pub struct StoreRows {
     alloc: Global,
-    disk: Option<MemoryDisk>,
+    disks: Option<Disks>,
     store: Option<Store<MemoryDisk>>,
 }
 
@@ -85,57 +87,72 @@ impl StoreRows {
     pub fn new(alloc: Global) -> StoreRows {
         StoreRows {
             alloc,
-            disk: None,
+            disks: None,
             store: None,
         }
     }
 
-    /// A disk that was made.
-    fn keep(&mut self, disk: Result<MemoryDisk, NoMemory>, answer: &mut Answer) {
-        match disk {
+    /// Disks that were made.
+    fn keep(&mut self, disks: Result<Disks, NoMemory>, answer: &mut Answer) {
+        match disks {
             Err(_) => answer.want_memory(),
-            Ok(disk) => {
-                self.disk = Some(disk);
+            Ok(disks) => {
+                self.disks = Some(disks);
                 answer.word("Ok");
             }
         }
     }
 
-    /// A new disk.
+    /// A new disk, and an empty spare.
     fn begin(&mut self, words: &mut Words<'_>, answer: &mut Answer) {
         let bytes = words.bytes();
         let failing = read_numbers(words);
+        let (none, never) = (Vec::new(self.alloc), Vec::new(self.alloc));
         if words.end() {
-            self.keep(MemoryDisk::new(self.alloc, bytes, failing), answer);
+            self.keep(Disks::new(self.alloc, bytes, failing, none, never), answer);
         }
     }
 
-    /// A disk that was not opened, and why.
+    /// A new disk and a new spare.
+    fn begin_both(&mut self, words: &mut Words<'_>, answer: &mut Answer) {
+        let disk = words.bytes();
+        let failing = read_numbers(words);
+        let spare = words.bytes();
+        let spare_failing = read_numbers(words);
+        if words.end() {
+            self.keep(
+                Disks::new(self.alloc, disk, failing, spare, spare_failing),
+                answer,
+            );
+        }
+    }
+
+    /// Disks whose log was not opened, and why.
     fn give_back(&mut self, fault: OpenFault<MemoryDisk>, answer: &mut Answer) {
         match fault {
-            OpenFault::Disk(disk) => {
-                self.disk = Some(disk);
+            OpenFault::Disk(disk, spare) => {
+                self.disks = Some(Disks { disk, spare });
                 answer.word("Disk");
             }
-            OpenFault::BadLog { disk, place } => {
-                self.disk = Some(disk);
+            OpenFault::BadLog { disk, spare, place } => {
+                self.disks = Some(Disks { disk, spare });
                 answer.word("BadLog");
                 answer.number(place);
             }
-            OpenFault::BootsSpent(disk) => {
-                self.disk = Some(disk);
+            OpenFault::BootsSpent(disk, spare) => {
+                self.disks = Some(Disks { disk, spare });
                 answer.word("BootsSpent");
             }
-            OpenFault::NoMemory(disk) => {
-                self.disk = Some(disk);
+            OpenFault::NoMemory(disk, spare) => {
+                self.disks = Some(Disks { disk, spare });
                 answer.want_memory();
             }
         }
     }
 
-    /// Opens a disk.
-    fn open_disk(&mut self, number: u32, disk: MemoryDisk, answer: &mut Answer) {
-        match Store::open(self.alloc, number, disk) {
+    /// Opens the log of two disks.
+    fn open_disks(&mut self, number: u32, disks: Disks, answer: &mut Answer) {
+        match Store::open(self.alloc, number, disks.disk, disks.spare) {
             Ok(store) => {
                 self.store = Some(store);
                 answer.word("Ok");
@@ -144,14 +161,14 @@ impl StoreRows {
         }
     }
 
-    /// Opens the disk.
+    /// Opens the log of the disks.
     fn open(&mut self, words: &mut Words<'_>, answer: &mut Answer) {
         let number = words.number32();
         if !words.end() {
             return;
         }
-        match self.disk.take() {
-            Some(disk) => self.open_disk(number, disk, answer),
+        match self.disks.take() {
+            Some(disks) => self.open_disks(number, disks, answer),
             None => answer.refuse(),
         }
     }
@@ -162,12 +179,12 @@ impl StoreRows {
             return;
         }
         match self.store.take() {
-            Some(store) => self.keep(Ok(store.close()), answer),
+            Some(store) => self.keep(Ok(Disks::of(store)), answer),
             None => answer.refuse(),
         }
     }
 
-    /// Has the disk crash.
+    /// Has the disks crash.
     fn crash(&mut self, words: &mut Words<'_>, answer: &mut Answer) {
         let choice = words.number32();
         if choice > 3 {
@@ -176,42 +193,46 @@ impl StoreRows {
         if !words.end() {
             return;
         }
-        match self.disk.take() {
-            Some(disk) => self.keep(disk.crash(choice), answer),
+        match self.disks.take() {
+            Some(disks) => self.keep(disks.crash(choice), answer),
             None => answer.refuse(),
         }
     }
 
-    /// What the disk holds.
+    /// What the disks hold.
     fn put_bytes(&self, words: &mut Words<'_>, answer: &mut Answer) {
         if !words.end() {
             return;
         }
-        match &self.disk {
-            Some(disk) => answer.bytes(disk.bytes()),
+        match &self.disks {
+            Some(disks) => {
+                answer.bytes(disks.disk.bytes());
+                answer.bytes(disks.spare.bytes());
+            }
             None => answer.refuse(),
         }
     }
 
-    /// Every call of the disk fails behind so many more.
+    /// Every call of either disk fails behind so many more of its own.
     fn stop(&mut self, words: &mut Words<'_>, answer: &mut Answer) {
         let calls = words.number64();
         if !words.end() {
             return;
         }
-        match &mut self.disk {
+        match &mut self.disks {
             None => answer.refuse(),
-            Some(disk) => {
-                disk.stop_after(calls);
+            Some(disks) => {
+                disks.stop_after(calls);
                 answer.word("Ok");
             }
         }
     }
 
-    /// A call on the disk.
-    fn on_disk(&mut self, name: &str, words: &mut Words<'_>, answer: &mut Answer) {
+    /// A call on the disks.
+    fn on_disks(&mut self, name: &str, words: &mut Words<'_>, answer: &mut Answer) {
         match name {
             "disk" => self.begin(words, answer),
+            "disks" => self.begin_both(words, answer),
             "open" => self.open(words, answer),
             "crash" => self.crash(words, answer),
             "bytes" => self.put_bytes(words, answer),
@@ -239,7 +260,7 @@ impl Part for StoreRows {
             "crashes" => put_crashes(words, answer),
             "close" => self.close(words, answer),
             "record" | "apply" => self.on_store(name, words, answer),
-            _ => self.on_disk(name, words, answer),
+            _ => self.on_disks(name, words, answer),
         }
     }
 }
