@@ -5,14 +5,14 @@ use Rattle.record_link.specs.Messages.{is_call_record}
 use Rattle.node_config.specs.declared.config.Config.{Config}
 use Rattle.node_link.specs.declared.link.Arrival.{Arrival}
 use Rattle.node_link.specs.declared.link.Arrival.TheVariants.{Record, TimedOut, Quiet, Closed}
-use Rattle.store_disk.specs.Disks.{DiskLife, LeavesNow}
+use Rattle.store_disk.specs.Disks.{DiskLife}
 use Rattle.ds_files.specs.Receive.{outcome_of}
 use Rattle.ds_files.specs.Records.{sent_to}
 use Rattle.ds_store.specs.declared.fault.OpenCause.{OpenCause}
 use Rattle.ds_store.specs.declared.fault.OpenCause.TheVariants as cause
 use Rattle.ds_store.specs.declared.fault.StoreFault.{StoreFault}
 use Rattle.ds_store.specs.declared.fault.StoreFault.TheVariants as store
-use Rattle.ds_store.specs.Kept.{KeptState, SaysServer, SaysEither, StandsOnDisk}
+use Rattle.ds_store.specs.Kept.{KeptState, LeavesBothNow, SaysServer, SaysEither, StandsOnDisks}
 use Rattle.ds_store.specs.Opens.{LeavesOpened, OpensLog}
 use Rattle.ff_node.specs.declared.end.NodeEnd.{NodeEnd}
 use Rattle.ff_node.specs.declared.end.NodeEnd.TheVariants as ends
@@ -52,9 +52,9 @@ server_excuses s Quiet = false
 server_excuses s Closed = false
 
 -- A crash leaves the log of the server as it is; or, where it broke off at an event, of the server as it is before it or behind it.
-abbrev pub server_leaves : ServerState → Option NodeEvent → Option DiskLife → Type 0
-server_leaves s None disk = LeavesNow disk (SaysServer s)
-server_leaves s (Some e) disk = LeavesNow disk (SaysEither s (server_takes s e.arrival).0)
+abbrev pub server_leaves : ServerState → Option NodeEvent → Option DiskLife → Option DiskLife → Type 0
+server_leaves s None disk spare = LeavesBothNow disk spare (SaysServer s)
+server_leaves s (Some e) disk spare = LeavesBothNow disk spare (SaysEither s (server_takes s e.arrival).0)
 
 -- how a call that was not done ends an event
 abbrev pub event_fault : StoreFault → EventFault
@@ -70,29 +70,29 @@ end_of_opening cause.BootsSpent = ends.BootsSpent
 end_of_opening cause.NoMemory = ends.NoMemory
 
 -- The log was opened, and the server that it says served, in its next boot.
-pub record ServesLog (config : Config) (before : Option DiskLife) (b : Beside) (end : NodeEnd) (b' : Beside) (after : Option DiskLife) : Type 0 where
+pub record ServesLog (config : Config) (disk spare : Option DiskLife) (b : Beside) (end : NodeEnd) (b' : Beside) (disk' spare' : Option DiskLife) : Type 0 where
   pub kept : KeptState
-  pub opened : OpensLog config.own before (Ok kept)
+  pub opened : OpensLog config.own disk spare (Ok kept)
   pub last : ServerState
-  pub runs : NodeRunsOn server_leaves server_rule [] kept.server config.turns b end last b' after
+  pub runs : NodeRunsOn server_leaves server_rule [] kept.server config.turns b end last b' disk' spare'
 
 -- The log could not be opened, and nothing was served.
-pub record OpensNoLog (config : Config) (before : Option DiskLife) (b : Beside) (end : NodeEnd) (b' : Beside) (after : Option DiskLife) : Type 0 where
+pub record OpensNoLog (config : Config) (disk spare : Option DiskLife) (b : Beside) (end : NodeEnd) (b' : Beside) (disk' spare' : Option DiskLife) : Type 0 where
   pub cause : OpenCause
-  pub opens : OpensLog config.own before (Err cause)
+  pub opens : OpensLog config.own disk spare (Err cause)
   pub end_is : end ≡ end_of_opening cause
   pub same : b' ≡ b
-  pub left : LeavesOpened config.own before after
+  pub left : LeavesOpened config.own disk spare disk' spare'
 
--- the disk has the log of a server that goes on
-abbrev pub StandsOn : KeptState → Option DiskLife → Type 0
-StandsOn k disk = (k.spent ≡ None) × StandsOnDisk k disk
+-- the disks have the log of a server that goes on
+abbrev pub StandsOn : KeptState → Option DiskLife → Option DiskLife → Type 0
+StandsOn k disk spare = (k.spent ≡ None) × StandsOnDisks k disk spare
 
-abbrev pub ServesDisk : Config → Option DiskLife → Beside → NodeEnd → Beside → Option DiskLife → Type 0
-ServesDisk config before b end b' after = ServesLog config before b end b' after ⊎ OpensNoLog config before b end b' after
+abbrev pub ServesDisks : Config → Option DiskLife → Option DiskLife → Beside → NodeEnd → Beside → Option DiskLife → Option DiskLife → Type 0
+ServesDisks config disk spare b end b' disk' spare' = ServesLog config disk spare b end b' disk' spare' ⊎ OpensNoLog config disk spare b end b' disk' spare'
 
 -- The link was opened, and this was done over it; or opening it failed, and nothing was done.
-abbrev pub ServesAsDs : Config → Option Opening → Option DiskLife → Beside → NodeEnd → Option Opening → Option DiskLife → Beside → Type 0
-ServesAsDs config opened disk b end opened' disk' b' =
-    ((opened' ≡ Some (opening_of config role.Server)) × ServesDisk config disk b end b' disk')
-    ⊎ ((e : Failed) × (end ≡ end_of_link e) × (opened' ≡ opened) × (disk' ≡ disk) × (b' ≡ b))
+abbrev pub ServesAsDs : Config → Option Opening → Option DiskLife → Option DiskLife → Beside → NodeEnd → Option Opening → Option DiskLife → Option DiskLife → Beside → Type 0
+ServesAsDs config opened disk spare b end opened' disk' spare' b' =
+    ((opened' ≡ Some (opening_of config role.Server)) × ServesDisks config disk spare b end b' disk' spare')
+    ⊎ ((e : Failed) × (end ≡ end_of_link e) × (opened' ≡ opened) × (disk' ≡ disk) × (spare' ≡ spare) × (b' ≡ b))

@@ -4,8 +4,8 @@ ghost use Rattle.std.specs.Prelude.{◌≡◌, ◌++◌, ℕ, None, IfOk, OnOk, 
 ghost use Rattle.cluster_model.specs.Server.{ServerState};
 ghost use Rattle.ds_files.specs.Receive.{outcome_of};
 ghost use Rattle.ds_files.specs.Records.{sent_to};
-ghost use Rattle.ds_store.specs.Kept.{SaysEither, StandsOnDisk};
-ghost use Rattle.store_disk.specs.Disks.{LeavesNow};
+ghost use Rattle.ds_store.specs.Kept.{LeavesBothNow, SaysEither};
+ghost use Rattle.store_disk.specs.Disks.{both_faults};
 ghost use Rattle.ff_node.specs.Serve.{disk_counted, sink_counted};
 ghost use Rattle.ds_node.specs.Standing.{stepped, stood};
 ghost use Rattle.ds_node.specs.DsNodes.{StandsOn, event_fault, gives_none, server_excuses, server_leaves, server_rule};
@@ -58,18 +58,19 @@ impl DsNode {
         bytes: &[u8],
         out: &mut Outbox,
         disk: &mut D,
+        spare: &mut D,
     ) -> Result<bool, EventFault>
-        requires { StandsOn self.old (D.told disk.old) }
+        requires { StandsOn self.old (D.told disk.old) (D.told spare.old) }
         ensures state { OnOk result (self.new.server ≡ (outcome_of self.old.server bytes.now).server) }
         ensures sends { OnOk result (out.new.sends.items ≡ out.old.sends.items ++ sent_to from (outcome_of self.old.server bytes.now).reply) }
         ensures none { IfOk result (λ none. none ≡ gives_none (outcome_of self.old.server bytes.now).reply) }
-        ensures stands { OnOk result (StandsOn self.new (D.told disk.new)) }
-        ensures broken { OnErr result (LeavesNow (D.told disk.new) (SaysEither self.old.server (outcome_of self.old.server bytes.now).server)) }
-        ensures faults { D.faults disk.new ≡ disk_counted result (D.faults disk.old) }
+        ensures stands { OnOk result (StandsOn self.new (D.told disk.new) (D.told spare.new)) }
+        ensures broken { OnErr result (LeavesBothNow (D.told disk.new) (D.told spare.new) (SaysEither self.old.server (outcome_of self.old.server bytes.now).server)) }
+        ensures faults { both_faults (D.faults disk.new) (D.faults spare.new) ≡ disk_counted result (both_faults (D.faults disk.old) (D.faults spare.old)) }
         ensures sink { (n : ℕ) → sink_counted result n ≡ n }
     {
         let before = out.sends.len();
-        if let Err(fault) = self.kept.answer_record(disk, from, bytes, out) {
+        if let Err(fault) = self.kept.answer_record(disk, spare, from, bytes, out) {
             return Err(fault_of(fault));
         }
         Ok(out.sends.len() == before)
@@ -101,10 +102,11 @@ impl Node for DsNode {
         out: &mut Outbox,
         _sink: &mut K,
         disk: &mut D,
+        spare: &mut D,
     ) -> Result<bool, EventFault> {
         match arrival {
             Arrival::Record { from, bytes } => {
-                let gives_none = match self.answer(from, bytes.bytes(), out, disk) {
+                let gives_none = match self.answer(from, bytes.bytes(), out, disk, spare) {
                     Ok(gives_none) => gives_none,
                     Err(fault) => return Err(fault),
                 };

@@ -1,8 +1,9 @@
 //! Serving as a data server.
 
 ghost use Rattle.std.specs.Prelude.{◌≡◌, None};
+ghost use Rattle.store_disk.specs.Disks.{both_faults};
 ghost use Rattle.ff_node.specs.Serve.{beside, disk_faults, link_faults, sink_faults};
-ghost use Rattle.ds_node.specs.DsNodes.{ServesAsDs, ServesDisk, end_of_opening};
+ghost use Rattle.ds_node.specs.DsNodes.{ServesAsDs, ServesDisks, end_of_opening};
 
 use crate::node::DsNode;
 use ds_store::{KeptServer, OpenCause};
@@ -24,21 +25,22 @@ fn end_of_opening(cause: OpenCause) -> NodeEnd
     }
 }
 
-/// Serves from the log on a disk, over a link that is open.
+/// Serves from the log on two disks, over a link that is open.
 fn serve_log<D: Disk, L: Link>(
     alloc: Global,
     config: &Config,
     disk: &mut D,
+    spare: &mut D,
     link: &mut L,
 ) -> NodeEnd
-    ensures told { ServesDisk config.now (D.told disk.old) (beside (L.coming link.old) (L.sent link.old) None 0 None) result (beside (L.coming link.new) (L.sent link.new) None 0 None) (D.told disk.new) }
+    ensures told { ServesDisks config.now (D.told disk.old) (D.told spare.old) (beside (L.coming link.old) (L.sent link.old) None 0 None) result (beside (L.coming link.new) (L.sent link.new) None 0 None) (D.told disk.new) (D.told spare.new) }
     ensures opened { L.opened link.new ≡ L.opened link.old }
     ensures faults { L.faults link.new ≡ link_faults result (L.faults link.old) }
-    ensures keeps { D.faults disk.new ≡ disk_faults result (D.faults disk.old) }
+    ensures keeps { both_faults (D.faults disk.new) (D.faults spare.new) ≡ disk_faults result (both_faults (D.faults disk.old) (D.faults spare.old)) }
     ensures writes { sink_faults result 0 ≡ 0 }
     ensures given { L.has_given link.new }
 {
-    let mut node = match KeptServer::open(alloc, config.own, disk) {
+    let mut node = match KeptServer::open(alloc, config.own, disk, spare) {
         Ok(kept) => DsNode::new(kept),
         Err(cause) => {
             link.finish();
@@ -54,17 +56,18 @@ fn serve_log<D: Disk, L: Link>(
         &mut StillClock,
         &mut NoSink,
         disk,
+        spare,
     )
 }
 
-/// Serves as the data server of the node's own number, from the log on its disk, over a link, for as many arrivals as the
+/// Serves as the data server of the node's own number, from the log on its disks, over a link, for as many arrivals as the
 /// configuration has turns: the server is the one that the log says, in its next boot; a record is answered to the node
 /// that it comes from, and no other arrival does anything (RFC 1813). What a call changes for good is in the log, and
-/// synced, before it is answered. It needs no clock. The link is opened first, so that where its address is taken the disk
-/// is left alone.
+/// synced, before it is answered. It needs no clock. The link is opened first, so that where its address is taken the disks
+/// are left alone.
 ///
 /// `NodeEnd::LinkFault` is a fault of the link in opening it or in asking for what comes, and nothing else is.
-/// `NodeEnd::DiskFault` is one of the disk; `NodeEnd::BadLog` and `NodeEnd::BootsSpent` say that its log is bad, or has
+/// `NodeEnd::DiskFault` is one of a disk; `NodeEnd::BadLog` and `NodeEnd::BootsSpent` say that their log is bad, or has
 /// the last boot. For want of memory one arrival may have been taken and not answered. However it ends, what it sent went
 /// to the streams that take it, and a crash leaves the log of the server as it is behind the arrivals that were answered,
 /// or behind one more.
@@ -72,11 +75,12 @@ pub fn serve_ds<D: Disk, L: Link>(
     alloc: Global,
     config: &Config,
     disk: &mut D,
+    spare: &mut D,
     link: &mut L,
 ) -> NodeEnd
-    ensures told { ServesAsDs config.now (L.opened link.old) (D.told disk.old) (beside (L.coming link.old) (L.sent link.old) None 0 None) result (L.opened link.new) (D.told disk.new) (beside (L.coming link.new) (L.sent link.new) None 0 None) }
+    ensures told { ServesAsDs config.now (L.opened link.old) (D.told disk.old) (D.told spare.old) (beside (L.coming link.old) (L.sent link.old) None 0 None) result (L.opened link.new) (D.told disk.new) (D.told spare.new) (beside (L.coming link.new) (L.sent link.new) None 0 None) }
     ensures faults { L.faults link.new ≡ link_faults result (L.faults link.old) }
-    ensures keeps { D.faults disk.new ≡ disk_faults result (D.faults disk.old) }
+    ensures keeps { both_faults (D.faults disk.new) (D.faults spare.new) ≡ disk_faults result (both_faults (D.faults disk.old) (D.faults spare.old)) }
     ensures writes { sink_faults result 0 ≡ 0 }
     ensures given { L.has_given link.new }
 {
@@ -84,5 +88,5 @@ pub fn serve_ds<D: Disk, L: Link>(
         link.finish();
         return NodeEnd::of_link(failed);
     }
-    serve_log(alloc, config, disk, link)
+    serve_log(alloc, config, disk, spare, link)
 }

@@ -12,6 +12,9 @@ use std::{env, io};
 /// The file of a data server's log, in the working folder.
 const LOG_FILE: &str = "ff_store.log";
 
+/// The other file of the log, to which it is renewed.
+const SPARE_FILE: &str = "ff_store.alt";
+
 /// The words behind the program's name.
 fn words(rt: &HostRuntime) -> io::Result<Vec<String>> {
     let mut words = Vec::new(rt.alloc());
@@ -21,7 +24,7 @@ fn words(rt: &HostRuntime) -> io::Result<Vec<String>> {
     Ok(words)
 }
 
-/// Runs the program on the standard input and output, with its notes on the standard error, its disk
+/// Runs the program on the standard input and output, with its notes on the standard error, its disks
 /// in the working folder, its link over TCP and the system's clock. Words that are not UTF-8 are no command, and where
 /// memory is wanted for the words the program says so and ends with 8.
 fn main(rt: HostRuntime) -> ExitCode {
@@ -29,6 +32,7 @@ fn main(rt: HostRuntime) -> ExitCode {
     let mut sink = StdSink::new(rt.stdout());
     let mut notes = StdSink::new(rt.stderr());
     let mut disk = FileDisk::new(&rt, LOG_FILE);
+    let mut spare = FileDisk::new(&rt, SPARE_FILE);
     let mut link = NodeLink::new(rt.alloc(), TcpHost::new(&rt, rt.alloc()));
     let mut clock = SystemClock::new(&rt);
     let words = match words(&rt) {
@@ -45,6 +49,7 @@ fn main(rt: HostRuntime) -> ExitCode {
         &mut sink,
         &mut notes,
         &mut disk,
+        &mut spare,
         &mut link,
         &mut clock,
     ))

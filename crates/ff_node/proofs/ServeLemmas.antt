@@ -1,11 +1,11 @@
 -- How serving goes on from turn to turn.
 use Rattle.std.proofs.Common.{◌≡◌, inl, inr, ℕ, ◌+◌, ◌-◌, ◌<◌, ◌≤◌, true, false, Bool, List, [], ◌∷◌, ◌++◌, length, map, take, Option, Some, None, Result, Ok, Err, refl, sym, ap, subst, ◌∙◌, arith, append_assoc, append-nil}
-use Rattle.std.specs.Prelude.{IsErr, MatchOption}
+use Rattle.std.specs.Prelude.{IsErr, MatchOption, min}
 use Rattle.std.proofs.lemmas.List.{take_at, length-append}
 use Rattle.ff_xdr.specs.declared.error.NoMemory.{NoMemory}
 use Rattle.rpc_record.specs.declared.stream.Failed.{Failed}
 use Rattle.rpc_record.specs.declared.stream.Failed.TheVariants as failed
-use Rattle.rpc_record.specs.Stream.{counted}
+use Rattle.rpc_record.specs.Stream.{counted, one_more}
 use Rattle.cluster_model.specs.declared.ids.NodeId.{NodeId}
 use Rattle.cluster_model.specs.declared.answer.FailCause.{FailCause}
 use Rattle.node_link.specs.declared.link.Arrival.{Arrival}
@@ -13,7 +13,7 @@ use Rattle.node_link.specs.Clock.{GivesMoment}
 use Rattle.node_link.specs.Link.{Gives, HandsOver}
 use Rattle.ff_node.specs.declared.end.NodeEnd.{NodeEnd}
 use Rattle.ff_node.specs.Nodes.{NodeEvent, NodeRule, SentRecords, sends_over, text_over}
-use Rattle.store_disk.specs.Disks.{DiskLife}
+use Rattle.store_disk.specs.Disks.{DiskLife, both_faults}
 use Rattle.ff_node.specs.declared.fault.EventFault.{EventFault}
 use Rattle.ff_node.specs.declared.fault.EventFault.TheVariants as fault
 use Rattle.ff_node.specs.Serve.{Beside, beside, behind, TookBeginning, TakesFront, GivesMoments, is_closed, Served, NodeServesOn, Stops, FindsClosed, TakesTurn, SendsAll, FailsIn, broken_at, end_of_outcome, last_end, end_of_link, end_of_event, link_faults, sink_faults, disk_faults, sink_counted, disk_counted}
@@ -108,31 +108,31 @@ module _ {S : Type 0} (rule : NodeRule S) where
     text = sym (no_more b.held);
   }
 
-  module _ (leaves : S → Option NodeEvent → Option DiskLife → Type 0) (disk : Option DiskLife) where
-    pub stops_now : (left : ℕ) (s : S) (b : Beside) (end : NodeEnd) (s' : S) (b' : Beside) (stops : Stops rule left s b end s' b') → leaves s (broken_at stops) disk → NodeServesOn leaves rule s left b end s' b' disk
+  module _ (leaves : S → Option NodeEvent → Option DiskLife → Option DiskLife → Type 0) (disk spare : Option DiskLife) where
+    pub stops_now : (left : ℕ) (s : S) (b : Beside) (end : NodeEnd) (s' : S) (b' : Beside) (stops : Stops rule left s b end s' b') → leaves s (broken_at stops) disk spare → NodeServesOn leaves rule s left b end s' b' disk spare
     unfolding served_none
     stops_now left s b end s' b' stops has = record { mid = s; beside_mid = b; served = served_none s b; left = left; turns_are = omega arith; stops = stops; stands = has }
 
-    pub turn_ended : (s : S) (b : Beside) (end : NodeEnd) (r : Result (Unit {0}) FailCause) → rule.outcome s ≡ Some r → end ≡ end_of_outcome r → leaves s None disk → TakesTurn leaves rule s b (Some end) s b disk
+    pub turn_ended : (s : S) (b : Beside) (end : NodeEnd) (r : Result (Unit {0}) FailCause) → rule.outcome s ≡ Some r → end ≡ end_of_outcome r → leaves s None disk spare → TakesTurn leaves rule s b (Some end) s b disk spare
     turn_ended s b end r ended is has = λ turns. stops_now (turns + 1) s b end s b (inl (r, ended, is, (refl, refl))) has
 
-    pub turn_failed : (s : S) (b b' : Beside) (end : NodeEnd) (e : Failed) → rule.outcome s ≡ None → end ≡ end_of_link e → Gives b.coming (Err e) b'.coming → b' ≡ record b { coming = b'.coming } → leaves s None disk → TakesTurn leaves rule s b (Some end) s b' disk
+    pub turn_failed : (s : S) (b b' : Beside) (end : NodeEnd) (e : Failed) → rule.outcome s ≡ None → end ≡ end_of_link e → Gives b.coming (Err e) b'.coming → b' ≡ record b { coming = b'.coming } → leaves s None disk spare → TakesTurn leaves rule s b (Some end) s b' disk spare
     turn_failed s b b' end e goes is gives rest has = λ turns.
         let same : b' ≡ b = rest ∙ ap (λ c. record b { coming = c }) (gives_err b.coming b'.coming e gives) in
         stops_now (turns + 1) s b end s b' (inr (goes, inr (omega arith, inl (e, is, (refl, same))))) has
 
     pub turn_closed : (s : S) (b b' : Beside) (end : NodeEnd) (a : Arrival) → rule.outcome s ≡ None → end ≡ last_end rule.is_server → is_closed a ≡ true → Gives b.coming (Ok a) b'.coming → b' ≡ record b { coming = b'.coming }
-        → leaves s None disk → TakesTurn leaves rule s b (Some end) s b' disk
+        → leaves s None disk spare → TakesTurn leaves rule s b (Some end) s b' disk spare
     turn_closed s b b' end a goes is closed gives rest has = λ turns.
         stops_now (turns + 1) s b end s b' (inr (goes, inl (is, inr (omega arith, (refl, finds_closed a b.coming b'.coming closed gives, rest))))) has
 
   -- ---- an event was taken
 
-  module _ (leaves : S → Option NodeEvent → Option DiskLife → Type 0) (e : NodeEvent) (s : S) (b b' : Beside) (goes : rule.outcome s ≡ None) (live : is_closed e.arrival ≡ false) (gives : Gives b.coming (Ok e.arrival) b'.coming)
+  module _ (leaves : S → Option NodeEvent → Option DiskLife → Option DiskLife → Type 0) (e : NodeEvent) (s : S) (b b' : Beside) (goes : rule.outcome s ≡ None) (live : is_closed e.arrival ≡ false) (gives : Gives b.coming (Ok e.arrival) b'.coming)
       (clocked : Clocked b.moments b.moment e.moment b'.moments b'.moment) where
-    pub turn_broken : (s' : S) (end : NodeEnd) (disk : Option DiskLife) (error : EventFault) → end ≡ end_of_event error → FailsIn rule s e b.sent b.held error b'.sent b'.held → leaves s (Some e) disk → TakesTurn leaves rule s b (Some end) s' b' disk
-    turn_broken s' end disk error is fails has = λ turns.
-        stops_now leaves disk (turns + 1) s b end s' b' (inr (
+    pub turn_broken : (s' : S) (end : NodeEnd) (disk spare : Option DiskLife) (error : EventFault) → end ≡ end_of_event error → FailsIn rule s e b.sent b.held error b'.sent b'.held → leaves s (Some e) disk spare → TakesTurn leaves rule s b (Some end) s' b' disk spare
+    turn_broken s' end disk spare error is fails has = λ turns.
+        stops_now leaves disk spare (turns + 1) s b end s' b' (inr (
           goes,
           inr (
             omega arith,
@@ -166,10 +166,10 @@ module _ {S : Type 0} (rule : NodeRule S) where
         }
 
     -- whatever serving does from there on, it did from before
-    serves_more : (turns : ℕ) (end : NodeEnd) (s'' : S) (b'' : Beside) (last : Option DiskLife) → b'.sent ≡ behind b.sent (rule.step s e).sends → b'.held ≡ behind b.held (rule.step s e).text
-        → NodeServesOn leaves rule (rule.step s e).state turns b' end s'' b'' last → NodeServesOn leaves rule s (turns + 1) b end s'' b'' last
+    serves_more : (turns : ℕ) (end : NodeEnd) (s'' : S) (b'' : Beside) (last last_spare : Option DiskLife) → b'.sent ≡ behind b.sent (rule.step s e).sends → b'.held ≡ behind b.held (rule.step s e).text
+        → NodeServesOn leaves rule (rule.step s e).state turns b' end s'' b'' last last_spare → NodeServesOn leaves rule s (turns + 1) b end s'' b'' last last_spare
     unfolding served_more
-    serves_more turns end s'' b'' last sends text serves = record {
+    serves_more turns end s'' b'' last last_spare sends text serves = record {
       mid = serves.mid;
       beside_mid = serves.beside_mid;
       served = served_more serves.mid serves.beside_mid sends text serves.served;
@@ -179,20 +179,21 @@ module _ {S : Type 0} (rule : NodeRule S) where
       stands = serves.stands;
     }
 
-    pub turn_goes_on : (mid : S) (disk : Option DiskLife) → mid ≡ (rule.step s e).state → b'.sent ≡ behind b.sent (rule.step s e).sends → b'.held ≡ behind b.held (rule.step s e).text → TakesTurn leaves rule s b None mid b' disk
-    turn_goes_on mid disk state sends text = λ turns end s'' b'' last serves. serves_more turns end s'' b'' last sends text (subst (λ (m : S). NodeServesOn leaves rule m turns b' end s'' b'' last) state serves)
+    pub turn_goes_on : (mid : S) (disk spare : Option DiskLife) → mid ≡ (rule.step s e).state → b'.sent ≡ behind b.sent (rule.step s e).sends → b'.held ≡ behind b.held (rule.step s e).text → TakesTurn leaves rule s b None mid b' disk spare
+    turn_goes_on mid disk spare state sends text = λ turns end s'' b'' last last_spare serves.
+        serves_more turns end s'' b'' last last_spare sends text (subst (λ (m : S). NodeServesOn leaves rule m turns b' end s'' b'' last last_spare) state serves)
 
   -- ---- all turns
 
-  module _ (leaves : S → Option NodeEvent → Option DiskLife → Type 0) (disk : Option DiskLife) where
-    pub turns_over : (s : S) (b : Beside) (end : NodeEnd) → rule.outcome s ≡ None → end ≡ last_end rule.is_server → leaves s None disk → NodeServesOn leaves rule s 0 b end s b disk
-    turns_over s b end goes is has = stops_now leaves disk 0 s b end s b (inr (goes, inl (is, inl (refl, (refl, refl))))) has
+  module _ (leaves : S → Option NodeEvent → Option DiskLife → Option DiskLife → Type 0) (disk spare : Option DiskLife) where
+    pub turns_over : (s : S) (b : Beside) (end : NodeEnd) → rule.outcome s ≡ None → end ≡ last_end rule.is_server → leaves s None disk spare → NodeServesOn leaves rule s 0 b end s b disk spare
+    turns_over s b end goes is has = stops_now leaves disk spare 0 s b end s b (inr (goes, inl (is, inl (refl, (refl, refl))))) has
 
-    pub turns_over_ended : (s : S) (b : Beside) (end : NodeEnd) (r : Result (Unit {0}) FailCause) → rule.outcome s ≡ Some r → end ≡ end_of_outcome r → leaves s None disk → NodeServesOn leaves rule s 0 b end s b disk
-    turns_over_ended s b end r ended is has = stops_now leaves disk 0 s b end s b (inl (r, ended, is, (refl, refl))) has
+    pub turns_over_ended : (s : S) (b : Beside) (end : NodeEnd) (r : Result (Unit {0}) FailCause) → rule.outcome s ≡ Some r → end ≡ end_of_outcome r → leaves s None disk spare → NodeServesOn leaves rule s 0 b end s b disk spare
+    turns_over_ended s b end r ended is has = stops_now leaves disk spare 0 s b end s b (inl (r, ended, is, (refl, refl))) has
 
-    pub turns_end : (s : S) (b : Beside) (end : NodeEnd) (o : Option (Result (Unit {0}) FailCause)) → rule.outcome s ≡ o → MatchOption o (end ≡ last_end rule.is_server) (λ r. end ≡ end_of_outcome r) → leaves s None disk
-        → NodeServesOn leaves rule s 0 b end s b disk
+    pub turns_end : (s : S) (b : Beside) (end : NodeEnd) (o : Option (Result (Unit {0}) FailCause)) → rule.outcome s ≡ o → MatchOption o (end ≡ last_end rule.is_server) (λ r. end ≡ end_of_outcome r) → leaves s None disk spare
+        → NodeServesOn leaves rule s 0 b end s b disk spare
     turns_end s b end None is ends has = turns_over s b end is ends has
     turns_end s b end (Some r) is ends has = turns_over_ended s b end r is ends has
 
@@ -226,3 +227,16 @@ pub event_counted : (e : EventFault) (n : ℕ)
 event_counted fault.Sink n = (refl, refl, refl)
 event_counted fault.Disk n = (refl, refl, refl)
 event_counted fault.NoMemory n = (refl, refl, refl)
+
+-- one fault more of the one disk, or of the other, is one of both
+first_more : (most disk spare : ℕ) → min (min (disk + 1) most + spare) most ≡ min (min (disk + spare) most + 1) most
+first_more most disk spare = omega arith
+
+second_more : (most disk spare : ℕ) → min (disk + min (spare + 1) most) most ≡ min (min (disk + spare) most + 1) most
+second_more most disk spare = omega arith
+
+pub both_first : (disk spare : ℕ) → both_faults (one_more disk) spare ≡ one_more (both_faults disk spare)
+both_first disk spare = first_more 18446744073709551615 disk spare
+
+pub both_second : (disk spare : ℕ) → both_faults disk (one_more spare) ≡ one_more (both_faults disk spare)
+both_second disk spare = second_more 18446744073709551615 disk spare

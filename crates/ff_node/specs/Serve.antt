@@ -161,31 +161,31 @@ broken_at (inr (goes, inr (more, inl failed))) = None
 broken_at (inr (goes, inr (more, inr breaks))) = Some breaks.event
 
 -- Events were taken and done, fewer than there were turns or as many; and then it stopped. `leaves` holds of the state that it had come to, the
--- event at which it broke off, where it did, and the disk then.
-pub record NodeServesOn {S : Type 0} (leaves : S → Option NodeEvent → Option DiskLife → Type 0) (rule : NodeRule S) (s : S) (turns : ℕ) (b : Beside) (end : NodeEnd) (s' : S) (b' : Beside) (disk : Option DiskLife) : Type 0 where
+-- event at which it broke off, where it did, and the disks then.
+pub record NodeServesOn {S : Type 0} (leaves : S → Option NodeEvent → Option DiskLife → Option DiskLife → Type 0) (rule : NodeRule S) (s : S) (turns : ℕ) (b : Beside) (end : NodeEnd) (s' : S) (b' : Beside) (disk spare : Option DiskLife) : Type 0 where
   pub mid : S
   pub beside_mid : Beside
   pub served : Served rule s b mid beside_mid
   pub left : ℕ
   pub turns_are : length served.taken + left ≡ turns
   pub stops : Stops rule left mid beside_mid end s' b'
-  pub stands : leaves mid (broken_at stops) disk
+  pub stands : leaves mid (broken_at stops) disk spare
 
 -- Before all events these records were sent; or, for want of memory, fewer of them, and no event was taken.
-abbrev pub NodeRunsOn : {S : Type 0} → (S → Option NodeEvent → Option DiskLife → Type 0) → NodeRule S → SentRecords → S → ℕ → Beside → NodeEnd → S → Beside → Option DiskLife → Type 0
-NodeRunsOn leaves rule first s turns b end s' b' disk =
-    NodeServesOn leaves rule s turns (with_sent b first) end s' b' disk
-    ⊎ ((end ≡ ends.NoMemory) × (s' ≡ s) × ((part : ℕ) × (part < length first) × (b' ≡ with_sent b (take part first))) × leaves s None disk)
+abbrev pub NodeRunsOn : {S : Type 0} → (S → Option NodeEvent → Option DiskLife → Option DiskLife → Type 0) → NodeRule S → SentRecords → S → ℕ → Beside → NodeEnd → S → Beside → Option DiskLife → Option DiskLife → Type 0
+NodeRunsOn leaves rule first s turns b end s' b' disk spare =
+    NodeServesOn leaves rule s turns (with_sent b first) end s' b' disk spare
+    ⊎ ((end ≡ ends.NoMemory) × (s' ≡ s) × ((part : ℕ) × (part < length first) × (b' ≡ with_sent b (take part first))) × leaves s None disk spare)
 
--- the same of a node that has no disk
-abbrev pub LeavesNothing : {S : Type 0} → S → Option NodeEvent → Option DiskLife → Type 0
-LeavesNothing s event disk = ⊤
+-- the same of a node that keeps nothing on disks
+abbrev pub LeavesNothing : {S : Type 0} → S → Option NodeEvent → Option DiskLife → Option DiskLife → Type 0
+LeavesNothing s event disk spare = ⊤
 
 abbrev pub NodeServes : {S : Type 0} → NodeRule S → S → ℕ → Beside → NodeEnd → S → Beside → Type 0
-NodeServes rule s turns b end s' b' = NodeServesOn LeavesNothing rule s turns b end s' b' None
+NodeServes rule s turns b end s' b' = NodeServesOn LeavesNothing rule s turns b end s' b' None None
 
 abbrev pub NodeRuns : {S : Type 0} → NodeRule S → SentRecords → S → ℕ → Beside → NodeEnd → S → Beside → Type 0
-NodeRuns rule first s turns b end s' b' = NodeRunsOn LeavesNothing rule first s turns b end s' b' None
+NodeRuns rule first s turns b end s' b' = NodeRunsOn LeavesNothing rule first s turns b end s' b' None None
 
 -- The link was opened so, and this was done over it; or opening it failed, and nothing was done.
 abbrev pub OpensThen : Option Opening → Config → Role → Beside → NodeEnd → Option Opening → Beside → Type 0 → Type 0
@@ -201,12 +201,12 @@ abbrev pub sink_faults : NodeEnd → ℕ → ℕ
 sink_faults ends.WriteFault n = one_more n
 sink_faults end n = n
 
--- the count of the disk's
+-- the count of the disks'
 abbrev pub disk_faults : NodeEnd → ℕ → ℕ
 disk_faults ends.DiskFault n = one_more n
 disk_faults end n = n
 
--- the counts of the sink's faults and of the disk's after an event with this result
+-- the counts of the sink's faults and of the disks' after an event with this result
 abbrev pub sink_counted : {T : Type 0} → Result T EventFault → ℕ → ℕ
 sink_counted (Err fault.Sink) n = one_more n
 sink_counted result n = n
@@ -234,10 +234,10 @@ WritesFor held text (Err e) new = TookBeginning held text new
 
 -- What one turn of serving did: it ended the serving so; or whatever the serving does from there on, it has done from before the turn with
 -- one turn more.
-abbrev pub TakesTurn : {S : Type 0} → (S → Option NodeEvent → Option DiskLife → Type 0) → NodeRule S → S → Beside → Option NodeEnd → S → Beside → Option DiskLife → Type 0
-TakesTurn leaves rule s b (Some end) s' b' disk = (turns : ℕ) → NodeServesOn leaves rule s (turns + 1) b end s' b' disk
-TakesTurn {S = S} leaves rule s b None s' b' disk = (turns : ℕ) (end : NodeEnd) (s'' : S) (b'' : Beside) (last : Option DiskLife)
-    → NodeServesOn leaves rule s' turns b' end s'' b'' last → NodeServesOn leaves rule s (turns + 1) b end s'' b'' last
+abbrev pub TakesTurn : {S : Type 0} → (S → Option NodeEvent → Option DiskLife → Option DiskLife → Type 0) → NodeRule S → S → Beside → Option NodeEnd → S → Beside → Option DiskLife → Option DiskLife → Type 0
+TakesTurn leaves rule s b (Some end) s' b' disk spare = (turns : ℕ) → NodeServesOn leaves rule s (turns + 1) b end s' b' disk spare
+TakesTurn {S = S} leaves rule s b None s' b' disk spare = (turns : ℕ) (end : NodeEnd) (s'' : S) (b'' : Beside) (last last_spare : Option DiskLife)
+    → NodeServesOn leaves rule s' turns b' end s'' b'' last last_spare → NodeServesOn leaves rule s (turns + 1) b end s'' b'' last last_spare
 
 -- the counts of faults after a turn
 abbrev pub turn_faults : (NodeEnd → ℕ → ℕ) → Option NodeEnd → ℕ → ℕ

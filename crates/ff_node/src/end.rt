@@ -16,11 +16,11 @@ pub enum NodeEnd {
     ReadFault,
     /// The sink failed.
     WriteFault,
-    /// The disk failed.
+    /// A disk failed.
     DiskFault,
-    /// The disk's log is bad at this byte.
+    /// The disks' log is bad at this byte of the file that has it.
     BadLog(u64),
-    /// The boot number in the disk's log is the last that there is.
+    /// The boot number in the disks' log is the last that there is.
     BootsSpent,
     /// The link met a fault.
     LinkFault,

@@ -12,8 +12,8 @@ pub enum EventFault {
     /// The sink failed.
     #[error("the sink failed")]
     Sink,
-    /// The disk failed.
-    #[error("the disk failed")]
+    /// A disk failed.
+    #[error("a disk failed")]
     Disk,
     /// Memory was wanted.
     #[error("memory was wanted")]

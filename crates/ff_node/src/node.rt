@@ -2,7 +2,7 @@
 
 ghost use Rattle.std.specs.Prelude.{◌≡◌, ◌++◌, Bool, Option, None, Some, IfOk, OnOk, OnErr};
 ghost use Rattle.node_link.specs.declared.link.Arrival.{Arrival};
-ghost use Rattle.store_disk.specs.Disks.{DiskLife};
+ghost use Rattle.store_disk.specs.Disks.{DiskLife, both_faults};
 ghost use Rattle.ff_node.specs.Nodes.{NodeEvent, NodeRule, event_at};
 ghost use Rattle.ff_node.specs.Serve.{WritesFor, disk_counted, sink_counted};
 
@@ -13,7 +13,7 @@ use rpc_record::Sink;
 use store_disk::Disk;
 
 /// A node of the cluster, which changes by what comes, sends records, may write bytes to a sink and keep what it is to
-/// remember on a disk, and may end by itself.
+/// remember on two disks, and may end by itself.
 pub trait Node {
     /// What counts of a node for its rule.
     ghost State: { Type 0 };
@@ -26,13 +26,13 @@ pub trait Node {
     /// The arrival is a call of which the node knows that it gets no answer, now or later.
     ghost excuses: { Self → Arrival → Bool };
 
-    /// The disk is the one on which the node keeps what it is to remember, and has all of it.
-    ghost stands: { Self → Option DiskLife → Type 0 };
+    /// The disks, the first and the spare, are those on which the node keeps what it is to remember, and have all of it.
+    ghost stands: { Self → Option DiskLife → Option DiskLife → Type 0 };
 
-    /// What the disk has of a node in a state; or of one that broke off at an event.
-    ghost leaves: { State → Option NodeEvent → Option DiskLife → Type 0 };
+    /// What the disks have of a node in a state; or of one that broke off at an event.
+    ghost leaves: { State → Option NodeEvent → Option DiskLife → Option DiskLife → Type 0 };
 
-    /// Takes an arrival, at a moment in seconds: puts out the records that it sends for it, keeps on the disk what it is
+    /// Takes an arrival, at a moment in seconds: puts out the records that it sends for it, keeps on the disks what it is
     /// to remember before any of them is sent, and writes its bytes to the sink. Answers whether it is a call of which
     /// it knows that it gets no answer, now or later.
     ///
@@ -45,16 +45,17 @@ pub trait Node {
         out: &mut Outbox,
         sink: &mut K,
         disk: &mut D,
+        spare: &mut D,
     ) -> Result<bool, EventFault>
-        requires { stands self.old (D.told disk.old) }
+        requires { stands self.old (D.told disk.old) (D.told spare.old) }
         ensures state { OnOk result (state self.new ≡ ((rule.step) (state self.old) (event_at moment arrival)).state) }
         ensures sends { OnOk result (out.new.sends.items ≡ out.old.sends.items ++ ((rule.step) (state self.old) (event_at moment arrival)).sends) }
         ensures excuses { IfOk result (λ is_excused. is_excused ≡ excuses self.old arrival) }
         ensures writes { WritesFor (K.held sink.old) ((rule.step) (state self.old) (event_at moment arrival)).text result (K.held sink.new) }
         ensures faults { K.faults sink.new ≡ sink_counted result (K.faults sink.old) }
-        ensures stands { OnOk result (stands self.new (D.told disk.new)) }
-        ensures broken { OnErr result (leaves (state self.old) (Some (event_at moment arrival)) (D.told disk.new)) }
-        ensures disk_faults { D.faults disk.new ≡ disk_counted result (D.faults disk.old) };
+        ensures stands { OnOk result (stands self.new (D.told disk.new) (D.told spare.new)) }
+        ensures broken { OnErr result (leaves (state self.old) (Some (event_at moment arrival)) (D.told disk.new) (D.told spare.new)) }
+        ensures disk_faults { both_faults (D.faults disk.new) (D.faults spare.new) ≡ disk_counted result (both_faults (D.faults disk.old) (D.faults spare.old)) };
 
     /// What it came to, once it has ended by itself.
     fn outcome(&self) -> Option<Result<(), FailCause>>
@@ -64,9 +65,9 @@ pub trait Node {
     fn is_server(&self) -> bool
         ensures { result ≡ rule.is_server };
 
-    /// The disk has what the node is to remember in its state; so it has where the node broke off behind an event.
-    ghost stood: { (node : Self) (disk : Option DiskLife) → stands node disk → leaves (state node) None disk };
+    /// The disks have what the node is to remember in its state; so they have where the node broke off behind an event.
+    ghost stood: { (node : Self) (disk spare : Option DiskLife) → stands node disk spare → leaves (state node) None disk spare };
 
-    ghost stepped: { (s : State) (event : NodeEvent) (node : Self) (disk : Option DiskLife)
-        → state node ≡ ((rule.step) s event).state → stands node disk → leaves s (Some event) disk };
+    ghost stepped: { (s : State) (event : NodeEvent) (node : Self) (disk spare : Option DiskLife)
+        → state node ≡ ((rule.step) s event).state → stands node disk spare → leaves s (Some event) disk spare };
 }

@@ -23,16 +23,17 @@ use Rattle.ff_run.specs.declared.serving.Task.TheVariants as code
 
 -- ---- what is told
 
--- what the source has left; how the disk stands and stood; what the link was opened with; and what is beside a node: the link, the clock and
+-- what the source has left; how the disks stand and stood; what the link was opened with; and what is beside a node: the link, the clock and
 -- the sink
 pub record Observed : Type 0 where
   pub unread : Option (List ℕ)
   pub disk : Option DiskLife
+  pub spare : Option DiskLife
   pub opened : Option Opening
   pub around : Beside
 
-abbrev pub observed : Option (List ℕ) → Option DiskLife → Option Opening → Beside → Observed
-observed unread disk opened around = record { unread = unread; disk = disk; opened = opened; around = around }
+abbrev pub observed : Option (List ℕ) → Option DiskLife → Option DiskLife → Option Opening → Beside → Observed
+observed unread disk spare opened around = record { unread = unread; disk = disk; spare = spare; opened = opened; around = around }
 
 -- ---- the configuration
 
@@ -158,23 +159,23 @@ KeepsSink b b' = b'.held ≡ b.held
 abbrev pub KeepsClock : Beside → Beside → Type 0
 KeepsClock b b' = (b'.moments ≡ b.moments) × (b'.moment ≡ b.moment)
 
-abbrev pub KeepsDisk : Observed → Observed → Type 0
-KeepsDisk old new = new.disk ≡ old.disk
+abbrev pub KeepsDisks : Observed → Observed → Type 0
+KeepsDisks old new = (new.disk ≡ old.disk) × (new.spare ≡ old.spare)
 
--- What running a node did that is configured so. A data server serves from the log on its disk, and every other node leaves the disk alone.
+-- What running a node did that is configured so. A data server serves from the log on its disks, and every other node leaves them alone.
 -- The metadata server is new; `put` had the bytes behind the first line, of which some may be held back.
 abbrev pub RunsNode : CommandValue → Config → Observed → NodeEnd → Observed → Type 0
 RunsNode Ds config old end new =
-    ServesAsDs config old.opened old.disk (link_alone old.around) end new.opened new.disk (link_alone new.around)
+    ServesAsDs config old.opened old.disk old.spare (link_alone old.around) end new.opened new.disk new.spare (link_alone new.around)
     × KeepsClock old.around new.around × KeepsSink old.around new.around
 RunsNode Mds config old end new =
     OpensThen old.opened config role.Mds (no_sink old.around) end new.opened (no_sink new.around)
     ((node : MdsNodeValue) × NodeRuns mds_node_rule [] (fresh_mds_node (new_mds (config_value config).servers (config_value config).mirrors)) config.turns (no_sink old.around) end node (no_sink new.around))
-    × KeepsSink old.around new.around × KeepsDisk old new
+    × KeepsSink old.around new.around × KeepsDisks old new
 RunsNode (Put name) config old end new =
     ((held : List ℕ) × PutsFile config name (left_behind old.unread) old.opened (no_sink old.around) end (all_left held new.unread) new.opened (no_sink new.around))
-    × KeepsSink old.around new.around × KeepsDisk old new
-RunsNode (Get name) config old end new = GetsFile config name old.opened old.around end new.opened new.around × KeepsDisk old new
+    × KeepsSink old.around new.around × KeepsDisks old new
+RunsNode (Get name) config old end new = GetsFile config name old.opened old.around end new.opened new.around × KeepsDisks old new
 RunsNode (Replay mode) config old end new = ⊥
 RunsNode (Gen number) config old end new = ⊥
 RunsNode Show config old end new = ⊥
@@ -189,12 +190,12 @@ abbrev pub KeepsSource : CommandValue → Option (List ℕ) → Option (List ℕ
 KeepsSource (Put name) left left' = ⊤
 KeepsSource command left left' = left' ≡ left
 
--- What a command of nodes did: a node ran by the configuration in the first line; or there is none, and disk, link, clock and sink are as they were.
+-- What a command of nodes did: a node ran by the configuration in the first line; or there is none, and disks, link, clock and sink are as they were.
 abbrev pub ServesTask : CommandValue → Observed → Result NodeEnd RunEnd → Observed → Type 0
 ServesTask command old (Ok end) new =
     (config : Config) × IsConfigOf command old.unread (config_value config) × RunsNode command config old end new × DrawsFor command old.unread end new.unread
 ServesTask command old (Err end) new =
-    Unserved command old.unread end × Draws {T = NodeEnd} old.unread (Err end) new.unread × (new.opened ≡ old.opened) × (new.around ≡ old.around) × KeepsDisk old new
+    Unserved command old.unread end × Draws {T = NodeEnd} old.unread (Err end) new.unread × (new.opened ≡ old.opened) × (new.around ≡ old.around) × KeepsDisks old new
 
 -- the counts of faults after it
 abbrev pub served_faults : Result NodeEnd RunEnd → ℕ → ℕ

@@ -23,7 +23,7 @@ use Rattle.ff_run.specs.Node.{Observed, ServesTask}
 
 -- but for the source and the sink all is as it was
 abbrev pub KeepsNodes : Observed → Observed → Type 0
-KeepsNodes old new = (new.opened ≡ old.opened) × (new.disk ≡ old.disk) × (new.around ≡ record old.around { held = new.around.held })
+KeepsNodes old new = (new.opened ≡ old.opened) × (new.disk ≡ old.disk) × (new.spare ≡ old.spare) × (new.around ≡ record old.around { held = new.around.held })
 
 -- how writing a text ends a command
 abbrev pub end_of_writing : Result (Unit {0}) Failed → RunEnd
@@ -129,7 +129,7 @@ link_faults_after Usage n = n
 link_faults_after (Ended end) n = n
 link_faults_after (Served end) n = link_faults end n
 
--- the disk's count of faults
+-- the disks' count of faults
 abbrev pub disk_faults_after : ProgramEnd → ℕ → ℕ
 disk_faults_after Usage n = n
 disk_faults_after (Ended end) n = n

@@ -6,6 +6,7 @@ ghost use Rattle.rpc_record.specs.Stream.{counted};
 ghost use Rattle.line_runs.specs.Runs.{Runs, read_faults, write_faults};
 ghost use Rattle.line_runs.specs.Writing.{WritesText};
 ghost use Rattle.command_words.specs.Commands.{IsInGrammar, command_value};
+ghost use Rattle.store_disk.specs.Disks.{both_faults};
 ghost use Rattle.ff_node.specs.Serve.{beside};
 ghost use Rattle.line_runs.specs.declared.end.RunEnd.TheVariants as run_end;
 ghost use Rattle.ff_run.specs.declared.program.ProgramEnd.{ProgramEnd};
@@ -159,17 +160,18 @@ fn run_task<S: Source, K: Sink, D: Disk, L: Link, C: Clock>(
     source: &mut S,
     sink: &mut K,
     disk: &mut D,
+    spare: &mut D,
     link: &mut L,
     clock: &mut C,
 ) -> ProgramEnd
     requires { IsShortName task }
-    ensures told { PerformsCommand (task_command task.entry) result (observed (S.left source.old) (D.told disk.old) (L.opened link.old) (beside (L.coming link.old) (L.sent link.old) (C.coming clock.old) (C.moment clock.old) (K.held sink.old))) (observed (S.left source.new) (D.told disk.new) (L.opened link.new) (beside (L.coming link.new) (L.sent link.new) (C.coming clock.new) (C.moment clock.new) (K.held sink.new))) }
+    ensures told { PerformsCommand (task_command task.entry) result (observed (S.left source.old) (D.told disk.old) (D.told spare.old) (L.opened link.old) (beside (L.coming link.old) (L.sent link.old) (C.coming clock.old) (C.moment clock.old) (K.held sink.old))) (observed (S.left source.new) (D.told disk.new) (D.told spare.new) (L.opened link.new) (beside (L.coming link.new) (L.sent link.new) (C.coming clock.new) (C.moment clock.new) (K.held sink.new))) }
     ensures reads { S.faults source.new ≡ source_faults_after result (S.faults source.old) }
     ensures writes { K.faults sink.new ≡ sink_faults_after result (K.faults sink.old) }
     ensures faults { L.faults link.new ≡ link_faults_after result (L.faults link.old) }
-    ensures keeps { D.faults disk.new ≡ disk_faults_after result (D.faults disk.old) }
+    ensures keeps { both_faults (D.faults disk.new) (D.faults spare.new) ≡ disk_faults_after result (both_faults (D.faults disk.old) (D.faults spare.old)) }
 {
-    match serve(alloc, task, source, sink, disk, link, clock) {
+    match serve(alloc, task, source, sink, disk, spare, link, clock) {
         Ok(end) => ProgramEnd::Served(end),
         Err(end) => ProgramEnd::Ended(end),
     }
@@ -201,24 +203,43 @@ fn perform<S: Source, K: Sink, D: Disk, L: Link, C: Clock>(
     source: &mut S,
     sink: &mut K,
     disk: &mut D,
+    spare: &mut D,
     link: &mut L,
     clock: &mut C,
 ) -> ProgramEnd
     requires { IsInGrammar (command_value command) }
-    ensures told { PerformsCommand (command_value command.entry) result (observed (S.left source.old) (D.told disk.old) (L.opened link.old) (beside (L.coming link.old) (L.sent link.old) (C.coming clock.old) (C.moment clock.old) (K.held sink.old))) (observed (S.left source.new) (D.told disk.new) (L.opened link.new) (beside (L.coming link.new) (L.sent link.new) (C.coming clock.new) (C.moment clock.new) (K.held sink.new))) }
+    ensures told { PerformsCommand (command_value command.entry) result (observed (S.left source.old) (D.told disk.old) (D.told spare.old) (L.opened link.old) (beside (L.coming link.old) (L.sent link.old) (C.coming clock.old) (C.moment clock.old) (K.held sink.old))) (observed (S.left source.new) (D.told disk.new) (D.told spare.new) (L.opened link.new) (beside (L.coming link.new) (L.sent link.new) (C.coming clock.new) (C.moment clock.new) (K.held sink.new))) }
     ensures reads { S.faults source.new ≡ source_faults_after result (S.faults source.old) }
     ensures writes { K.faults sink.new ≡ sink_faults_after result (K.faults sink.old) }
     ensures faults { L.faults link.new ≡ link_faults_after result (L.faults link.old) }
-    ensures keeps { D.faults disk.new ≡ disk_faults_after result (D.faults disk.old) }
+    ensures keeps { both_faults (D.faults disk.new) (D.faults spare.new) ≡ disk_faults_after result (both_faults (D.faults disk.old) (D.faults spare.old)) }
 {
     match command {
         Command::Replay(mode) => ProgramEnd::Ended(replay_lawfully(alloc, mode, source, sink)),
         Command::Gen(number) => ProgramEnd::Ended(written(generate(alloc, number, sink))),
         Command::Show => ProgramEnd::Ended(show(alloc, source, sink)),
-        Command::Ds => run_task(alloc, Task::Ds, source, sink, disk, link, clock),
-        Command::Mds => run_task(alloc, Task::Mds, source, sink, disk, link, clock),
-        Command::Put(name) => run_task(alloc, Task::Put(name), source, sink, disk, link, clock),
-        Command::Get(name) => run_task(alloc, Task::Get(name), source, sink, disk, link, clock),
+        Command::Ds => run_task(alloc, Task::Ds, source, sink, disk, spare, link, clock),
+        Command::Mds => run_task(alloc, Task::Mds, source, sink, disk, spare, link, clock),
+        Command::Put(name) => run_task(
+            alloc,
+            Task::Put(name),
+            source,
+            sink,
+            disk,
+            spare,
+            link,
+            clock,
+        ),
+        Command::Get(name) => run_task(
+            alloc,
+            Task::Get(name),
+            source,
+            sink,
+            disk,
+            spare,
+            link,
+            clock,
+        ),
     }
 }
 
@@ -229,17 +250,18 @@ fn do_words<S: Source, K: Sink, D: Disk, L: Link, C: Clock>(
     source: &mut S,
     sink: &mut K,
     disk: &mut D,
+    spare: &mut D,
     link: &mut L,
     clock: &mut C,
 ) -> ProgramEnd
-    ensures told { Performs (map string_bytes words.now) result (observed (S.left source.old) (D.told disk.old) (L.opened link.old) (beside (L.coming link.old) (L.sent link.old) (C.coming clock.old) (C.moment clock.old) (K.held sink.old))) (observed (S.left source.new) (D.told disk.new) (L.opened link.new) (beside (L.coming link.new) (L.sent link.new) (C.coming clock.new) (C.moment clock.new) (K.held sink.new))) }
+    ensures told { Performs (map string_bytes words.now) result (observed (S.left source.old) (D.told disk.old) (D.told spare.old) (L.opened link.old) (beside (L.coming link.old) (L.sent link.old) (C.coming clock.old) (C.moment clock.old) (K.held sink.old))) (observed (S.left source.new) (D.told disk.new) (D.told spare.new) (L.opened link.new) (beside (L.coming link.new) (L.sent link.new) (C.coming clock.new) (C.moment clock.new) (K.held sink.new))) }
     ensures reads { S.faults source.new ≡ source_faults_after result (S.faults source.old) }
     ensures writes { K.faults sink.new ≡ sink_faults_after result (K.faults sink.old) }
     ensures faults { L.faults link.new ≡ link_faults_after result (L.faults link.old) }
-    ensures keeps { D.faults disk.new ≡ disk_faults_after result (D.faults disk.old) }
+    ensures keeps { both_faults (D.faults disk.new) (D.faults spare.new) ≡ disk_faults_after result (both_faults (D.faults disk.old) (D.faults spare.old)) }
 {
     match asked(alloc, words) {
-        Ok(Some(command)) => perform(alloc, command, source, sink, disk, link, clock),
+        Ok(Some(command)) => perform(alloc, command, source, sink, disk, spare, link, clock),
         Ok(None) => ProgramEnd::Usage,
         Err(NoMemory) => ProgramEnd::Ended(RunEnd::NoMemory),
     }
@@ -265,10 +287,10 @@ pub fn end_without_words<E: Sink>(alloc: Global, notes: &mut E) -> u8
 }
 
 /// Runs the program: `words` are those behind its name, `source` its standard input, `sink` its
-/// standard output, `notes` its standard error, `disk` what has the log of a data server, `link` what joins it to other
+/// standard output, `notes` its standard error, `disk` and `spare` what have the log of a data server, `link` what joins it to other
 /// nodes and `clock` its clock, in seconds. The status is 0 where the source was read to its end, all was written, or all turns were served or the
 /// link closed; 2 where the words are no command, 3 where a line is outside the grammar, 4 where the source failed, 5
-/// where the sink or the notes did, 6 where the disk did, its log is bad or has the last boot, 7 where the link did, 8 where memory was wanted, 9 where the source is longer
+/// where the sink or the notes did, 6 where a disk did, the log is bad or has the last boot, 7 where the link did, 8 where memory was wanted, 9 where the source is longer
 /// than 64 MiB or a journal would pass a limit, 10 where a request of `put` or `get` was not done, and 11 where their
 /// turns were over, or the link was closed, before all was answered.
 pub fn run<S: Source, K: Sink, E: Sink, D: Disk, L: Link, C: Clock>(
@@ -278,20 +300,21 @@ pub fn run<S: Source, K: Sink, E: Sink, D: Disk, L: Link, C: Clock>(
     sink: &mut K,
     notes: &mut E,
     disk: &mut D,
+    spare: &mut D,
     link: &mut L,
     clock: &mut C,
 ) -> u8
     ensures does { (end : ProgramEnd)
-        × Performs (map string_bytes words.now) end (observed (S.left source.old) (D.told disk.old) (L.opened link.old) (beside (L.coming link.old) (L.sent link.old) (C.coming clock.old) (C.moment clock.old) (K.held sink.old))) (observed (S.left source.new) (D.told disk.new) (L.opened link.new) (beside (L.coming link.new) (L.sent link.new) (C.coming clock.new) (C.moment clock.new) (K.held sink.new)))
+        × Performs (map string_bytes words.now) end (observed (S.left source.old) (D.told disk.old) (D.told spare.old) (L.opened link.old) (beside (L.coming link.old) (L.sent link.old) (C.coming clock.old) (C.moment clock.old) (K.held sink.old))) (observed (S.left source.new) (D.told disk.new) (D.told spare.new) (L.opened link.new) (beside (L.coming link.new) (L.sent link.new) (C.coming clock.new) (C.moment clock.new) (K.held sink.new)))
         × (S.faults source.new ≡ source_faults_after end (S.faults source.old))
         × (K.faults sink.new ≡ sink_faults_after end (K.faults sink.old))
-        × (D.faults disk.new ≡ disk_faults_after end (D.faults disk.old))
+        × (both_faults (D.faults disk.new) (D.faults spare.new) ≡ disk_faults_after end (both_faults (D.faults disk.old) (D.faults spare.old)))
         × (L.faults link.new ≡ link_faults_after end (L.faults link.old))
         × Reports end result (E.held notes.old) (E.held notes.new) (E.faults notes.old) (E.faults notes.new) }
     ensures laws { LawsOfScripts }
 {
     // (what the journals of scripts obey has no code: this brings its proof)
     script_laws();
-    let end = do_words(alloc, words, source, sink, disk, link, clock);
+    let end = do_words(alloc, words, source, sink, disk, spare, link, clock);
     report(alloc, end, notes)
 }

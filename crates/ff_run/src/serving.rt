@@ -5,6 +5,7 @@ ghost use Rattle.command_words.specs.Commands.{CommandValue};
 ghost use Rattle.line_runs.specs.Lines.{all_left};
 ghost use Rattle.node_config.specs.Configs.{IsInRange, config_value};
 ghost use Rattle.user_nodes.specs.Puts.{source_faults};
+ghost use Rattle.store_disk.specs.Disks.{both_faults};
 ghost use Rattle.ff_node.specs.Serve.{beside, disk_faults, link_faults, sink_faults};
 ghost use Rattle.ff_run.specs.Node.{Draws, FindsConfig, FirstFaults, HoldsRest, ReadsFirst, RunsNode, ServedReads, ServesTask, IsShortName, KeepsSource, observed, is_of_server, left_behind, served_disk, served_faults, served_writes, task_command};
 
@@ -90,20 +91,21 @@ fn run_node<S: Source, K: Sink, D: Disk, L: Link, C: Clock>(
     source: &mut S,
     sink: &mut K,
     disk: &mut D,
+    spare: &mut D,
     link: &mut L,
     clock: &mut C,
 ) -> NodeEnd
     requires short { IsShortName task }
     requires ranged { IsInRange (config_value config.now) }
-    ensures told { (before : Option (List ℕ)) → all_left buffer.old (S.left source.old) ≡ left_behind before → RunsNode (task_command task.entry) config.now (observed before (D.told disk.old) (L.opened link.old) (beside (L.coming link.old) (L.sent link.old) (C.coming clock.old) (C.moment clock.old) (K.held sink.old))) result (observed (S.left source.new) (D.told disk.new) (L.opened link.new) (beside (L.coming link.new) (L.sent link.new) (C.coming clock.new) (C.moment clock.new) (K.held sink.new))) }
+    ensures told { (before : Option (List ℕ)) → all_left buffer.old (S.left source.old) ≡ left_behind before → RunsNode (task_command task.entry) config.now (observed before (D.told disk.old) (D.told spare.old) (L.opened link.old) (beside (L.coming link.old) (L.sent link.old) (C.coming clock.old) (C.moment clock.old) (K.held sink.old))) result (observed (S.left source.new) (D.told disk.new) (D.told spare.new) (L.opened link.new) (beside (L.coming link.new) (L.sent link.new) (C.coming clock.new) (C.moment clock.new) (K.held sink.new))) }
     ensures drawn { KeepsSource (task_command task.entry) (S.left source.old) (S.left source.new) }
     ensures reads { S.faults source.new ≡ source_faults result (S.faults source.old) }
     ensures writes { K.faults sink.new ≡ sink_faults result (K.faults sink.old) }
     ensures faults { L.faults link.new ≡ link_faults result (L.faults link.old) }
-    ensures keeps { D.faults disk.new ≡ disk_faults result (D.faults disk.old) }
+    ensures keeps { both_faults (D.faults disk.new) (D.faults spare.new) ≡ disk_faults result (both_faults (D.faults disk.old) (D.faults spare.old)) }
 {
     match task {
-        Task::Ds => serve_ds(alloc, config, disk, link),
+        Task::Ds => serve_ds(alloc, config, disk, spare, link),
         Task::Mds => serve_mds(alloc, config, link, clock),
         Task::Put(name) => run_put(alloc, config, name, buffer, source, link, clock),
         Task::Get(name) => run_get(alloc, config, name, link, clock, sink),
@@ -119,15 +121,16 @@ pub fn serve<S: Source, K: Sink, D: Disk, L: Link, C: Clock>(
     source: &mut S,
     sink: &mut K,
     disk: &mut D,
+    spare: &mut D,
     link: &mut L,
     clock: &mut C,
 ) -> Result<NodeEnd, RunEnd>
     requires { IsShortName task }
-    ensures told { ServesTask (task_command task.entry) (observed (S.left source.old) (D.told disk.old) (L.opened link.old) (beside (L.coming link.old) (L.sent link.old) (C.coming clock.old) (C.moment clock.old) (K.held sink.old))) result (observed (S.left source.new) (D.told disk.new) (L.opened link.new) (beside (L.coming link.new) (L.sent link.new) (C.coming clock.new) (C.moment clock.new) (K.held sink.new))) }
+    ensures told { ServesTask (task_command task.entry) (observed (S.left source.old) (D.told disk.old) (D.told spare.old) (L.opened link.old) (beside (L.coming link.old) (L.sent link.old) (C.coming clock.old) (C.moment clock.old) (K.held sink.old))) result (observed (S.left source.new) (D.told disk.new) (D.told spare.new) (L.opened link.new) (beside (L.coming link.new) (L.sent link.new) (C.coming clock.new) (C.moment clock.new) (K.held sink.new))) }
     ensures reads { ServedReads result (S.faults source.old) (S.faults source.new) }
     ensures writes { K.faults sink.new ≡ served_writes result (K.faults sink.old) }
     ensures faults { L.faults link.new ≡ served_faults result (L.faults link.old) }
-    ensures keeps { D.faults disk.new ≡ served_disk result (D.faults disk.old) }
+    ensures keeps { both_faults (D.faults disk.new) (D.faults spare.new) ≡ served_disk result (both_faults (D.faults disk.old) (D.faults spare.old)) }
 {
     let Ok(mut buffer) = LineBuffer::new(alloc) else {
         return Err(RunEnd::NoMemory);
@@ -141,6 +144,7 @@ pub fn serve<S: Source, K: Sink, D: Disk, L: Link, C: Clock>(
         source,
         sink,
         disk,
+        spare,
         link,
         clock,
     ))

@@ -97,13 +97,13 @@ impl Node for MdsNode {
 
     ghost excuses = { λ _ _. false };
 
-    ghost stands = { λ _ _. ⊤ };
+    ghost stands = { λ _ _ _. ⊤ };
 
     ghost leaves = { LeavesNothing };
 
-    ghost stood = { λ _ _ _. tt };
+    ghost stood = { λ _ _ _ _. tt };
 
-    ghost stepped = { λ _ _ _ _ _ _. tt };
+    ghost stepped = { λ _ _ _ _ _ _ _. tt };
 
     fn take<K: Sink, D: Disk>(
         &mut self,
@@ -112,6 +112,7 @@ impl Node for MdsNode {
         out: &mut Outbox,
         _sink: &mut K,
         _disk: &mut D,
+        _spare: &mut D,
     ) -> Result<bool, EventFault> {
         match self.do_event(moment, arrival, out) {
             Ok(()) => Ok(false),

@@ -56,5 +56,6 @@ pub fn serve_mds<L: Link, C: Clock>(
         clock,
         &mut NoSink,
         &mut NoDisk,
+        &mut NoDisk,
     )
 }

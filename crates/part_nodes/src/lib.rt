@@ -4,6 +4,7 @@
 mod apply;
 mod client;
 mod crashes;
+mod disks;
 mod mds;
 mod outbox;
 mod server;

@@ -14,6 +14,7 @@ pub struct Failing {
     pub sink: Vec<u64>,
     pub notes: Vec<u64>,
     pub disk: Vec<u64>,
+    pub spare: Vec<u64>,
     pub link: Vec<u64>,
 }
 
@@ -25,13 +26,14 @@ impl Failing {
             sink: Vec::new(alloc),
             notes: Vec::new(alloc),
             disk: Vec::new(alloc),
+            spare: Vec::new(alloc),
             link: Vec::new(alloc),
         }
     }
 }
 
-/// What a run of the program is over: its words, the bytes of its source and of its disk, what comes over its link, the
-/// moments that its clock gives, and the calls that fail.
+/// What a run of the program is over: its words, the bytes of its source and of its disk, beside an empty spare, what comes
+/// over its link, the moments that its clock gives, and the calls that fail.
 #[derive(Drop)]
 pub struct Over {
     pub said: Vec<String>,
@@ -63,6 +65,7 @@ pub struct Ended {
     pub sink: MemorySink,
     pub notes: MemorySink,
     pub disk: MemoryDisk,
+    pub spare: MemoryDisk,
     pub link: MemoryLink,
 }
 
@@ -77,6 +80,7 @@ pub fn ran(alloc: Global, over: Over) -> Result<Ended, NoMemory> {
         text,
     } = over;
     let mut disk = MemoryDisk::new(alloc, log, failing.disk)?;
+    let mut spare = MemoryDisk::new(alloc, Vec::new(alloc), failing.spare)?;
     let mut source = MemorySource::new(text, failing.source);
     let mut sink = MemorySink::new(alloc, failing.sink);
     let mut notes = MemorySink::new(alloc, failing.notes);
@@ -89,6 +93,7 @@ pub fn ran(alloc: Global, over: Over) -> Result<Ended, NoMemory> {
         &mut sink,
         &mut notes,
         &mut disk,
+        &mut spare,
         &mut link,
         &mut clock,
     );
@@ -97,6 +102,7 @@ pub fn ran(alloc: Global, over: Over) -> Result<Ended, NoMemory> {
         sink,
         notes,
         disk,
+        spare,
         link,
     })
 }

@@ -23,6 +23,7 @@ impl Failing {
             "sink" => Some(&mut self.sink),
             "notes" => Some(&mut self.notes),
             "disk" => Some(&mut self.disk),
+            "spare" => Some(&mut self.spare),
             "link" => Some(&mut self.link),
             _ => None,
         }
@@ -115,7 +116,7 @@ enum Told {
     Printed,
     /// How many calls of the link failed, and what was sent.
     Sent,
-    /// How many calls of the link and of the disk failed, the disk's bytes, and what was sent.
+    /// How many calls of the link and of both disks failed, the bytes of the disk and of the spare, and what was sent.
     Stored,
     /// How many calls of the link failed, what was written, and what was sent.
     Written,
@@ -131,8 +132,9 @@ fn put_told(told: Told, ended: &Ended, answer: &mut Answer) {
         }
         Told::Stored => {
             answer.number(ended.link.faults());
-            answer.number(ended.disk.faults());
+            answer.number(ended.disk.faults().saturating_add(ended.spare.faults()));
             answer.bytes(ended.disk.bytes());
+            answer.bytes(ended.spare.bytes());
             put_sent(ended.link.sent(), answer);
         }
         Told::Written => {
@@ -183,8 +185,8 @@ fn play_ds(words: &mut Words<'_>, answer: &mut Answer) {
     put_ran(Told::Sent, over, words, answer);
 }
 
-/// `store FAILING DISK ARRIVALS TEXT`: the status, the note, how many calls of the link and of the disk failed, the disk's
-/// bytes, and what was sent.
+/// `store FAILING DISK ARRIVALS TEXT`, where the spare is empty: the status, the note, how many calls of the link and of both
+/// disks failed, the bytes of the disk and of the spare, and what was sent.
 fn play_store(words: &mut Words<'_>, answer: &mut Answer) {
     let over = Over {
         said: ds_word(words),
@@ -256,6 +258,7 @@ fn put_status(said: &[String], text: Vec<u8>, answer: &mut Answer) {
         &mut source,
         &mut sink,
         &mut notes,
+        &mut NoDisk,
         &mut NoDisk,
         &mut link,
         &mut clock,

@@ -44,6 +44,7 @@ fn a_script_is_too_long(rt: HostRuntime) -> Result<(), Fail> {
         &mut sink,
         &mut notes,
         &mut NoDisk,
+        &mut NoDisk,
         &mut link,
         &mut MemoryClock::new(Vec::new(rt.alloc())),
     );

@@ -177,13 +177,13 @@ impl Node for GetNode {
 
     ghost excuses = { λ _ _. false };
 
-    ghost stands = { λ _ _. ⊤ };
+    ghost stands = { λ _ _ _. ⊤ };
 
     ghost leaves = { LeavesNothing };
 
-    ghost stood = { λ _ _ _. tt };
+    ghost stood = { λ _ _ _ _. tt };
 
-    ghost stepped = { λ _ _ _ _ _ _. tt };
+    ghost stepped = { λ _ _ _ _ _ _ _. tt };
 
     /// The bytes that came are written before the next are asked for.
     fn take<K: Sink, D: Disk>(
@@ -193,6 +193,7 @@ impl Node for GetNode {
         out: &mut Outbox,
         sink: &mut K,
         _disk: &mut D,
+        _spare: &mut D,
     ) -> Result<bool, EventFault> {
         let last = self.last;
         if client_does(&mut self.client, last, moment, arrival, out).is_err() {
@@ -261,6 +262,7 @@ pub fn run_get<L: Link, C: Clock, K: Sink>(
         link,
         clock,
         sink,
+        &mut NoDisk,
         &mut NoDisk,
     )
 }

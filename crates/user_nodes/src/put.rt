@@ -135,13 +135,13 @@ impl Node for PutNode {
 
     ghost excuses = { λ _ _. false };
 
-    ghost stands = { λ _ _. ⊤ };
+    ghost stands = { λ _ _ _. ⊤ };
 
     ghost leaves = { LeavesNothing };
 
-    ghost stood = { λ _ _ _. tt };
+    ghost stood = { λ _ _ _ _. tt };
 
-    ghost stepped = { λ _ _ _ _ _ _. tt };
+    ghost stepped = { λ _ _ _ _ _ _ _. tt };
 
     fn take<K: Sink, D: Disk>(
         &mut self,
@@ -150,6 +150,7 @@ impl Node for PutNode {
         out: &mut Outbox,
         _sink: &mut K,
         _disk: &mut D,
+        _spare: &mut D,
     ) -> Result<bool, EventFault> {
         let last = self.last;
         if client_does(&mut self.client, last, moment, arrival, out).is_err() {
@@ -227,6 +228,7 @@ pub fn run_put<S: Source, L: Link, C: Clock>(
         link,
         clock,
         &mut NoSink,
+        &mut NoDisk,
         &mut NoDisk,
     )
 }
