@@ -4,7 +4,6 @@
 mod apply;
 mod client;
 mod crashes;
-mod disks;
 mod mds;
 mod outbox;
 mod server;
