@@ -7,3 +7,4 @@ pub mod Snapshots
 pub mod Readings
 pub mod Booting
 pub mod Opened
+pub mod Growing

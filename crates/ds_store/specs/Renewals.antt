@@ -1,5 +1,5 @@
 -- A renewal: the snapshot of a server in the other file takes the log's place.
-use Rattle.std.specs.Prelude.{◌≡◌, ◌⊎◌, ℕ, ◌+◌, ◌*◌, ◌≤◌, true, List, Option, Result, Ok}
+use Rattle.std.specs.Prelude.{⊤, ◌≡◌, ◌⊎◌, ℕ, ◌+◌, ◌*◌, ◌≤◌, true, List, Option, Some, None, Result, Ok, Err}
 use Rattle.rpc_record.specs.declared.stream.Failed.{Failed}
 use Rattle.cluster_model.specs.Server.{ServerState}
 use Rattle.store_disk.specs.Disks.{DiskLife}
@@ -9,7 +9,7 @@ use Rattle.twin_log.specs.LogCalls.{OnSide, renewed_place}
 use Rattle.ds_log.specs.Durable.{durable, played, unbooted}
 use Rattle.ds_snapshot.specs.Snapshots.{AreBodiesOf, snapshot_of}
 use Rattle.ds_snapshot.specs.Sizes.{snapshot_size}
-use Rattle.ds_store.specs.Kept.{IsLogOf, KeptState}
+use Rattle.ds_store.specs.Kept.{IsLogOf}
 
 -- The bodies of the snapshot were put; a crash leaves the other file passed.
 pub record PutsAll (s : ServerState) (old : KeptLogState) (disk spare : Option DiskLife) (says : TwinLog) (result : Result (Unit {0}) Failed) (new : KeptLogState) (disk' spare' : Option DiskLife) : Type 0 where
@@ -24,21 +24,35 @@ pub record SaysRenewed (s : ServerState) (generation : ℕ) (left : List ℕ) : 
   pub file : IsFileOf generation (renewed_place generation) bodies left
   pub says : played (unbooted s.number) (renewed_place generation) bodies ≡ Ok (durable s)
 
+-- the bytes of a file with the generation and the snapshot of the server, and with its last gate byte
+abbrev pub renewed_size : ServerState → ℕ
+renewed_size s = 18 + snapshot_size (durable s)
+
+-- the file has so many, where both disks tell
+abbrev pub HasRenewedSize : ServerState → KeptLogState → Option DiskLife → Option DiskLife → Type 0
+HasRenewedSize s log None spare = ⊤
+HasRenewedSize s log (Some disk) None = ⊤
+HasRenewedSize s log (Some disk) (Some spare) = log.size ≡ renewed_size s
+
 -- A log was renewed as the server's; a crash leaves the other file passed, or with the new log.
 pub record Renews (s : ServerState) (old : KeptLogState) (disk spare : Option DiskLife) (result : Result (Unit {0}) Failed) (new : KeptLogState) (disk' spare' : Option DiskLife) : Type 0 where
   pub crash : OnSide (opposite old.side) disk spare disk' spare' (λ left. IsPassed old.generation left ⊎ SaysRenewed s (next_generation old.generation) left)
   pub kept : (x : Unit {0}) → result ≡ Ok x → IsLogOf s new disk' spare'
+  pub size : (x : Unit {0}) → result ≡ Ok x → HasRenewedSize s new disk' spare'
 
 -- ---- when a log is renewed
-
--- the bytes of a file with the generation and the snapshot of the server, and with its last gate byte
-abbrev pub renewed_size : ServerState → ℕ
-renewed_size s = 18 + snapshot_size (durable s)
 
 -- A log is renewed behind an append that leaves more bytes.
 abbrev pub log_limit : ServerState → ℕ
 log_limit s = 16777216 + 2 * renewed_size s
 
 -- The file that records are appended to is no longer, unless its generation is the last.
-abbrev pub IsWithinLimit : KeptState → Type 0
-IsWithinLimit k = has_next k.log.generation ≡ true → k.log.size ≤ log_limit k.server
+abbrev pub IsWithinLimit : ServerState → KeptLogState → Type 0
+IsWithinLimit s log = has_next log.generation ≡ true → log.size ≤ log_limit s
+
+-- Where a call appended, the file is within its limit; the same of disks that may tell nothing.
+abbrev pub IsBounded : {T E : Type 0} → KeptLogState → Result T E → ServerState → KeptLogState → Option DiskLife → Option DiskLife → Type 0
+IsBounded old (Err e) s new disk spare = ⊤
+IsBounded old (Ok x) s new None spare = ⊤
+IsBounded old (Ok x) s new (Some disk) None = ⊤
+IsBounded old (Ok x) s new (Some disk) (Some spare) = (new ≡ old) ⊎ IsWithinLimit s new

@@ -1,6 +1,6 @@
 //! A data server and its log, on two disks that are handed to each call.
 
-ghost use Rattle.std.specs.Prelude.{◌≡◌, ◌<◌, None, Some, IfOk, true};
+ghost use Rattle.std.specs.Prelude.{◌≡◌, ◌<◌, ◌-◌, ◌^◌, None, Some, IfOk, IfSome, true, false};
 ghost use Rattle.rpc_record.specs.Rpc.{plain_credential};
 ghost use Rattle.nfs3_wire.specs.Calls.{plain_call};
 ghost use Rattle.cluster_model.specs.Server.{ServerState, server_after};
@@ -12,8 +12,9 @@ ghost use Rattle.ds_files.specs.Receive.{outcome_of};
 ghost use Rattle.ds_files.specs.declared.logging.Logging.TheVariants.{On, Off};
 ghost use Rattle.ds_log.specs.Durable.{applied_bytes, durable};
 ghost use Rattle.ds_log.specs.Steady.{IsSteady};
-ghost use Rattle.twin_log.specs.KeptLogs.{can_begin};
+ghost use Rattle.twin_log.specs.KeptLogs.{has_next};
 ghost use Rattle.twin_log.specs.LogCalls.{CountsTwins};
+ghost use Rattle.ds_store.specs.Renewals.{IsBounded, IsWithinLimit};
 ghost use Rattle.ds_store.specs.Kept.{Becomes, IsCrashSafe, IsLogOf, IsRecordOf, LogsStep, Posts, SpendsBy, StandsOnDisks, StepsSafely, plain_fault};
 
 use crate::fault::StoreFault;
@@ -45,15 +46,16 @@ pub struct KeptServer {
 }
 
 impl Model for KeptServer {
-    ghost use Rattle.std.specs.Prelude.{◌<◌};
+    ghost use Rattle.std.specs.Prelude.{◌<◌, ◌≤◌};
     ghost use Rattle.ds_log.specs.Steady.{IsSteady};
+    ghost use Rattle.ds_store.specs.Renewals.{log_limit};
     ghost use Rattle.ds_store.specs.Kept.{KeptState, IsSpentBy};
 
     ghost Value = { KeptState };
 
     ghost view = { λ k. record { server = k.server; log = k.log; spent = k.spent } };
 
-    ghost invariant = { λ k. IsSteady k.server × (0 < k.server.clock.boot) × IsSpentBy k.spent };
+    ghost invariant = { λ k. IsSteady k.server × (0 < k.server.clock.boot) × IsSpentBy k.spent × (k.limit ≤ log_limit k.server) };
 }
 
 /// The record of what is to be done, where it is to be logged.
@@ -69,6 +71,16 @@ fn record_of(
     match log_body(alloc, server, effect)? {
         Some(body) => Ok(Some(Gated::new(alloc, &body)?)),
         None => Ok(None),
+    }
+}
+
+/// A generation has one behind it.
+fn has_next(generation: Option<u64>) -> bool
+    ensures { result ≡ has_next generation }
+{
+    match generation {
+        None => true,
+        Some(generation) => generation < u64::MAX,
     }
 }
 
@@ -95,17 +107,18 @@ impl KeptServer {
         &self.server
     }
 
-    /// Whether the log is longer than what it says makes good, and may be renewed. What it says is counted only where the
-    /// log outgrew it as it was at the last count.
+    /// Whether the log is longer than its limit, and has a generation behind it. What it says is counted only where it outgrew
+    /// the limit of the last count.
     fn is_to_renew(&mut self) -> bool
         ensures same { self.new ≡ self.old }
-        ensures may { result ≡ true → can_begin self.old.log ≡ true }
+        ensures room { result ≡ true → IfSome self.old.log.generation (λ generation. generation < 2 ^ 64 - 1) }
+        ensures within { result ≡ false → IsWithinLimit self.old.server self.old.log }
     {
         if self.log.length() <= self.limit {
             return false;
         }
         self.limit = log_limit(&self.server);
-        self.log.length() > self.limit && self.log.can_begin()
+        self.log.length() > self.limit && has_next(self.log.generation())
     }
 
     /// Appends a record to the log, and renews it where it is longer than what it says makes good.
@@ -118,6 +131,7 @@ impl KeptServer {
         ensures logs { (before : ServerState) → IsLogOf before self.old.log (D.told disk.old) (D.told spare.old) → before.number ≡ self.old.server.number → applied_bytes (durable before) message.now ≡ Some (durable self.old.server) → LogsStep before self.old.server (D.told disk.old) (D.told spare.old) result self.new.log (D.told disk.new) (D.told spare.new) }
         ensures server { self.new.server ≡ self.old.server }
         ensures spent { self.new.spent ≡ self.old.spent }
+        ensures bounded { IsBounded self.old.log result self.old.server self.new.log (D.told disk.new) (D.told spare.new) }
         ensures faults { CountsTwins result (D.faults disk.old) (D.faults spare.old) (D.faults disk.new) (D.faults spare.new) }
     {
         self.log.append(disk, spare, message)?;
@@ -138,6 +152,7 @@ impl KeptServer {
         ensures logs { (before : ServerState) → IsLogOf before self.old.log (D.told disk.old) (D.told spare.old) → before.number ≡ self.old.server.number → applied_bytes (durable before) message.now ≡ Some (durable self.old.server) → LogsStep before self.old.server (D.told disk.old) (D.told spare.old) result self.new.log (D.told disk.new) (D.told spare.new) }
         ensures server { self.new.server ≡ self.old.server }
         ensures spent { SpendsBy result self.new.spent }
+        ensures bounded { IsBounded self.old.log result self.old.server self.new.log (D.told disk.new) (D.told spare.new) }
         ensures faults { CountsTwins (plain_fault result) (D.faults disk.old) (D.faults spare.old) (D.faults disk.new) (D.faults spare.new) }
     {
         match self.append_and_renew(disk, spare, message) {
@@ -166,6 +181,7 @@ impl KeptServer {
         ensures becomes { Becomes (server_after self.old.server (plain_effect effect.now)) self.old (D.told disk.old) (D.told spare.old) result self.new (D.told disk.new) (D.told spare.new) }
         ensures crash { IsCrashSafe self.old.server (server_after self.old.server (plain_effect effect.now)) (D.told disk.old) (D.told spare.old) result (D.told disk.new) (D.told spare.new) }
         ensures stands { StandsOnDisks self.new (D.told disk.new) (D.told spare.new) }
+        ensures bounded { IsBounded self.old.log result self.new.server self.new.log (D.told disk.new) (D.told spare.new) }
         ensures faults { CountsTwins (plain_fault result) (D.faults disk.old) (D.faults spare.old) (D.faults disk.new) (D.faults spare.new) }
     {
         let message = record_of(self.alloc, &self.server, effect)?;
@@ -191,6 +207,7 @@ impl KeptServer {
         ensures answer { IfOk result (λ answer. answer ≡ answer_of (step_of self.old.server (plain_call call.now) (plain_credential cred.now))) }
         ensures steps { StepsSafely self.old.spent (step_of self.old.server (plain_call call.now) (plain_credential cred.now)).server self.old (D.told disk.old) (D.told spare.old) result self.new (D.told disk.new) (D.told spare.new) }
         ensures stands { StandsOnDisks self.new (D.told disk.new) (D.told spare.new) }
+        ensures bounded { IsBounded self.old.log result self.new.server self.new.log (D.told disk.new) (D.told spare.new) }
         ensures faults { CountsTwins (plain_fault result) (D.faults disk.old) (D.faults spare.old) (D.faults disk.new) (D.faults spare.new) }
     {
         if let Some(fault) = self.spent {
@@ -216,6 +233,7 @@ impl KeptServer {
         ensures posts { Posts logging (outcome_of self.old.server message.now) from result out.old out.new }
         ensures steps { StepsSafely self.old.spent (outcome_of self.old.server message.now).server self.old (D.told disk.old) (D.told spare.old) result self.new (D.told disk.new) (D.told spare.new) }
         ensures stands { StandsOnDisks self.new (D.told disk.new) (D.told spare.new) }
+        ensures bounded { IsBounded self.old.log result self.new.server self.new.log (D.told disk.new) (D.told spare.new) }
         ensures faults { CountsTwins (plain_fault result) (D.faults disk.old) (D.faults spare.old) (D.faults disk.new) (D.faults spare.new) }
     {
         if let Some(fault) = self.spent {
@@ -246,6 +264,7 @@ impl KeptServer {
         ensures posts { Posts On (outcome_of self.old.server message.now) from result out.old out.new }
         ensures steps { StepsSafely self.old.spent (outcome_of self.old.server message.now).server self.old (D.told disk.old) (D.told spare.old) result self.new (D.told disk.new) (D.told spare.new) }
         ensures stands { StandsOnDisks self.new (D.told disk.new) (D.told spare.new) }
+        ensures bounded { IsBounded self.old.log result self.new.server self.new.log (D.told disk.new) (D.told spare.new) }
         ensures faults { CountsTwins (plain_fault result) (D.faults disk.old) (D.faults spare.old) (D.faults disk.new) (D.faults spare.new) }
     {
         self.take_record(disk, spare, from, message, Logging::On, out)
@@ -265,6 +284,7 @@ impl KeptServer {
         ensures posts { Posts Off (outcome_of self.old.server message.now) from result out.old out.new }
         ensures steps { StepsSafely self.old.spent (outcome_of self.old.server message.now).server self.old (D.told disk.old) (D.told spare.old) result self.new (D.told disk.new) (D.told spare.new) }
         ensures stands { StandsOnDisks self.new (D.told disk.new) (D.told spare.new) }
+        ensures bounded { IsBounded self.old.log result self.new.server self.new.log (D.told disk.new) (D.told spare.new) }
         ensures faults { CountsTwins (plain_fault result) (D.faults disk.old) (D.faults spare.old) (D.faults disk.new) (D.faults spare.new) }
     {
         self.take_record(disk, spare, from, message, Logging::Off, out)
