@@ -28,8 +28,8 @@ pub answers : {T : Type 0} (before after : ServerState) (disk spare : Option Dis
 answers before after disk spare result disk' spare' log since keeps = record { since = since; answered = λ x ok. says_now after log disk' spare' keeps }
 
 pub since_nothing : (before after : ServerState) (log : KeptLogState) (disk spare : Option DiskLife) → IsLogOf before log disk spare → LeavesBoth disk spare disk spare (SaysEither before after)
-since_nothing before after log None spare keeps = tt
-since_nothing before after log (Some d) None keeps = tt
+since_nothing before after log None spare keeps = refl
+since_nothing before after log (Some d) None keeps = refl
 since_nothing before after log (Some d) (Some sp) keeps =
     since_none _ (Some d) (λ left image. since_none _ (Some sp) (λ left_spare image_spare. inl (says_now before log (Some d) (Some sp) keeps left image left_spare image_spare)))
 

@@ -74,8 +74,8 @@ module _ (said next : ServerState) (starts : restart_of said [] ≡ Some next) w
 
 -- less is said of it
 both_weaker : (P Q : List ℕ → List ℕ → Type 0) → ((left left_spare : List ℕ) → P left left_spare → Q left left_spare) → (disk spare disk' spare' : Option DiskLife) → LeavesBoth disk spare disk' spare' P → LeavesBoth disk spare disk' spare' Q
-both_weaker P Q w None spare disk' spare' h = tt
-both_weaker P Q w (Some d) None disk' spare' h = tt
+both_weaker P Q w None spare disk' spare' h = h
+both_weaker P Q w (Some d) None disk' spare' h = h
 both_weaker P Q w (Some d) (Some s) disk' spare' h =
     since_weaker (λ left. LeavesSince (Some s) spare' (P left)) (λ left. LeavesSince (Some s) spare' (Q left)) (Some d) disk' (λ left. since_weaker (P left) (Q left) (Some s) spare' (w left)) h
 

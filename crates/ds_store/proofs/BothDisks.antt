@@ -22,8 +22,16 @@ module _ (log_side : Side) (Own Other : List ℕ → Type 0) (P : List ℕ → L
     (joins : (left left_spare : List ℕ) → Own (at_side log_side left left_spare) → Other (at_side (opposite log_side) left left_spare) → P left left_spare) where
   pub both_since : (disk spare disk' spare' : Option DiskLife) → LeavesSince (at_side log_side disk spare) (at_side log_side disk' spare') Own
       → LeavesSince (at_side (opposite log_side) disk spare) (at_side (opposite log_side) disk' spare') Other → LeavesBoth disk spare disk' spare' P
-  both_since None spare disk' spare' own other = tt
-  both_since (Some d) None disk' spare' own other = tt
+  both_since None spare disk' spare' own other = first log_side own other
+    where
+      first : (x : Side) → LeavesSince (at_side x None spare) (at_side x disk' spare') Own → LeavesSince (at_side (opposite x) None spare) (at_side (opposite x) disk' spare') Other → disk' ≡ None
+      first side.Disk own other = own
+      first side.Spare own other = other
+  both_since (Some d) None disk' spare' own other = second log_side own other
+    where
+      second : (x : Side) → LeavesSince (at_side x (Some d) None) (at_side x disk' spare') Own → LeavesSince (at_side (opposite x) (Some d) None) (at_side (opposite x) disk' spare') Other → spare' ≡ None
+      second side.Disk own other = other
+      second side.Spare own other = own
   both_since (Some d) (Some s) disk' spare' own other = by_side log_side joins own other
     where
       by_side : (x : Side) → ((left left_spare : List ℕ) → Own (at_side x left left_spare) → Other (at_side (opposite x) left left_spare) → P left left_spare)

@@ -24,10 +24,10 @@ no_spare s log None spare none = tt
 no_spare s log (Some d) spare none = subst (λ (o : Option DiskLife). IsLogOf s log (Some d) o) (sym none) tt
 
 pub untold_disk : {E : Type 0} (before after : ServerState) (spare : Option DiskLife) (result : Result (Unit {0}) E) (log : KeptLogState) (disk' spare' : Option DiskLife) → TellAsBefore None spare disk' spare' → LogsStep before after None spare result log disk' spare'
-untold_disk before after spare result log disk' spare' tells = record { since = tt; kept = λ x ok. no_disk after log disk' spare' tells.0 }
+untold_disk before after spare result log disk' spare' tells = record { since = tells.0; kept = λ x ok. no_disk after log disk' spare' tells.0 }
 
 pub untold_spare : {E : Type 0} (before after : ServerState) (d : DiskLife) (result : Result (Unit {0}) E) (log : KeptLogState) (disk' spare' : Option DiskLife) → TellAsBefore (Some d) None disk' spare' → LogsStep before after (Some d) None result log disk' spare'
-untold_spare before after d result log disk' spare' tells = record { since = tt; kept = λ x ok. no_spare after log disk' spare' tells.1 }
+untold_spare before after d result log disk' spare' tells = record { since = tells.1; kept = λ x ok. no_spare after log disk' spare' tells.1 }
 
 module _ (before after : ServerState) (body : List ℕ) (number : before.number ≡ after.number) (made : applied_bytes (durable before) body ≡ Some (durable after)) where
   -- a record is appended, and this is how it is answered

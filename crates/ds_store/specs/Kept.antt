@@ -51,10 +51,10 @@ SaysEither before after disk spare = SaysServer before disk spare ⊎ SaysServer
 -- ---- what crashes leave of two disks
 
 -- Whenever a crash came from the one moment to the other, it left pairs of bytes with P, the disk's and the spare's. No common clock is needed: P
--- holds of what the one had at any of these moments with what the other had at any.
+-- holds of what the one had at any of these moments with what the other had at any. A disk that tells nothing tells nothing later.
 abbrev pub LeavesBoth : Option DiskLife → Option DiskLife → Option DiskLife → Option DiskLife → (List ℕ → List ℕ → Type 0) → Type 0
-LeavesBoth None spare disk' spare' P = ⊤
-LeavesBoth (Some disk) None disk' spare' P = ⊤
+LeavesBoth None spare disk' spare' P = disk' ≡ None
+LeavesBoth (Some disk) None disk' spare' P = spare' ≡ None
 LeavesBoth (Some disk) (Some spare) disk' spare' P = LeavesSince (Some disk) disk' (λ left. LeavesSince (Some spare) spare' (P left))
 
 -- a crash now leaves pairs with P
