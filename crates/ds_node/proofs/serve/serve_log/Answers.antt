@@ -1,4 +1,4 @@
-use Rattle.std.proofs.Common.{◌≡◌, Ok, rules, sym, ap, ◌∙◌}
+use Rattle.std.proofs.Common.{Ok, rules, sym, ap, ◌∙◌}
 use Rattle.store_disk.specs.Disks.{both_faults}
 use Rattle.ff_node.specs.declared.end.NodeEnd.{NodeEnd}
 use Rattle.ff_node.specs.Serve.{disk_faults}
