@@ -9,7 +9,7 @@ use Rattle.rpc_record.specs.declared.stream.Failed.TheVariants as failed
 use Rattle.rpc_record.specs.Stream.{counted, one_more}
 use Rattle.store_disk.specs.Disks.{AllImages, DiskLife, LeavesSince, both_faults}
 use Rattle.store_disk.proofs.Leaving.{Told, since_new}
-use Rattle.twin_log.specs.LogCalls.{CountsTwins, TellAsBefore}
+use Rattle.twin_log.specs.LogCalls.{CountsTwins}
 use Rattle.ds_files.specs.Records.{sent_to}
 use Rattle.ds_store.specs.declared.fault.OpenCause.{OpenCause}
 use Rattle.ds_store.specs.declared.fault.OpenCause.TheVariants as cause
@@ -46,15 +46,15 @@ at_images P spare (Some life) None h = tt
 at_images P spare (Some life) (Some other) h = λ left image. since_new (P left) (Some spare) (Some other) (h left image)
 
 -- what holds whenever a crash came holds of one that comes now
-both_new : (P : List ℕ → List ℕ → Type 0) (disk spare disk' spare' : Option DiskLife) → LeavesBoth disk spare disk' spare' P → TellAsBefore disk spare disk' spare' → LeavesBothNow disk' spare' P
-both_new P None spare disk' spare' leaves tells = subst (λ (t : Option DiskLife). LeavesBothNow t spare' P) (sym tells.0) tt
-both_new P (Some disk) None disk' spare' leaves tells = subst (λ (t : Option DiskLife). LeavesBothNow disk' t P) (sym tells.1) (no_spare P disk')
-both_new P (Some disk) (Some spare) disk' spare' leaves tells = at_images P spare disk' spare' (since_new (λ left. LeavesSince (Some spare) spare' (P left)) (Some disk) disk' leaves)
+both_new : (P : List ℕ → List ℕ → Type 0) (disk spare disk' spare' : Option DiskLife) → LeavesBoth disk spare disk' spare' P → LeavesBothNow disk' spare' P
+both_new P None spare disk' spare' leaves = subst (λ (t : Option DiskLife). LeavesBothNow t spare' P) (sym leaves) tt
+both_new P (Some disk) None disk' spare' leaves = subst (λ (t : Option DiskLife). LeavesBothNow disk' t P) (sym leaves) (no_spare P disk')
+both_new P (Some disk) (Some spare) disk' spare' leaves = at_images P spare disk' spare' (since_new (λ left. LeavesSince (Some spare) spare' (P left)) (Some disk) disk' leaves)
 
 -- a crash leaves the one server or the other
 pub leaves_either : {T : Type 0} (after : ServerState) (old : KeptState) (disk spare : Option DiskLife) (result : Result T StoreFault) (disk' spare' : Option DiskLife) → IsCrashSafe old.server after disk spare result disk' spare'
-    → TellAsBefore disk spare disk' spare' → LeavesBothNow disk' spare' (SaysEither old.server after)
-leaves_either after old disk spare result disk' spare' safe tells = both_new (SaysEither old.server after) disk spare disk' spare' safe.since tells
+    → LeavesBothNow disk' spare' (SaysEither old.server after)
+leaves_either after old disk spare result disk' spare' safe = both_new (SaysEither old.server after) disk spare disk' spare' safe.since
 
 -- ---- counts of faults
 

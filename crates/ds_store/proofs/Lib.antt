@@ -8,3 +8,4 @@ pub mod Readings
 pub mod Booting
 pub mod Opened
 pub mod Growing
+pub mod Bounding

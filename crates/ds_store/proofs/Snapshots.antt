@@ -1,5 +1,5 @@
 -- The snapshot of a server is put into a log that is being made, and that log takes the other one's place.
-use Rattle.std.proofs.Common.{◌≡◌, ℕ, ◌+◌, ◌<◌, List, [], ◌∷◌, ◌++◌, length, Option, Some, None, Result, Ok, Err, ◌⊎◌, inl, inr, refl, sym, ap, subst, ◌∙◌, arith}
+use Rattle.std.proofs.Common.{◌≡◌, ℕ, ◌+◌, ◌<◌, List, [], ◌∷◌, ◌++◌, length, Option, Some, None, OnOk, Result, Ok, Err, ◌⊎◌, inl, inr, refl, sym, ap, subst, ◌∙◌, arith}
 use Rattle.std.proofs.lemmas.List.{append-nil, append_assoc}
 use Rattle.std.proofs.lemmas.Option.{same_Some}
 use Rattle.ff_xdr.specs.declared.error.NoMemory.{NoMemory}
@@ -10,7 +10,7 @@ use Rattle.store_disk.proofs.Leaving.{since_both, since_weaker}
 use Rattle.twin_log.specs.declared.side.Side.{Side}
 use Rattle.twin_log.specs.Twins.{TwinLog, Has, at_side, opposite}
 use Rattle.twin_log.specs.KeptLogs.{IsFileOf, IsPassed, KeptLogState, RenewsTwin, StandsTwin, next_generation}
-use Rattle.twin_log.specs.LogCalls.{BeginsRenewal, EndsRenewal, OnSide, PutsMore, TellAsBefore, TellsAsBefore, renewed_place}
+use Rattle.twin_log.specs.LogCalls.{BeginsRenewal, EndsRenewal, HasRenewed, OnSide, PutsMore, TellAsBefore, TellsAsBefore, renewed_place}
 use Rattle.twin_log.proofs.Sides.{renews_now}
 use Rattle.ds_log.specs.Bodies.{Logged}
 use Rattle.ds_log.specs.Durable.{all_applied, applied, applied_as, durable, played, played_on, then_all, unbooted}
@@ -21,6 +21,7 @@ use Rattle.ds_snapshot.specs.NextBodies.{GivesBody, bodies_from}
 use Rattle.ds_snapshot.proofs.Playing.{snapshot_plays}
 use Rattle.ds_store.specs.Renewals.{PutsAll, Renews, SaysRenewed}
 use Rattle.ds_store.proofs.BothDisks.{log_of}
+use Rattle.ds_store.proofs.Bounding.{at_ok, sized}
 
 -- ---- bodies as bytes
 
@@ -136,7 +137,7 @@ module _ (s : ServerState) (steady : IsSteady s) (booted : 0 < s.clock.boot) (ol
   passed disk' spare' h = weaker_on (opposite old.side) (IsPassed old.generation) PassedOrRenewed disk spare disk' spare' (λ left is. inl is) h
 
   pub begin_fails : (answer : Result (Unit {0}) Failed) (e : Failed) → answer ≡ Err e → (new : KeptLogState) → Renews s old disk spare answer new disk1 spare1
-  begin_fails answer e is new = record { crash = passed disk1 spare1 begun.crash; kept = λ x ok. absurd (cc (is, ok)) }
+  begin_fails answer e is new = record { crash = passed disk1 spare1 begun.crash; kept = λ x ok. absurd (cc (is, ok)); size = λ x ok. absurd (cc (is, ok)) }
 
   module _ (x1 : Unit {0}) (ok1 : result1 ≡ Ok x1) (same1 : log1 ≡ record old { renewed = log1.renewed }) (result2 : Result (Unit {0}) Failed) (log2 : KeptLogState) (disk2 spare2 : Option DiskLife)
       (puts : (say : TwinLog) → RenewsTwin log1 say [] disk1 spare1 → PutsAll s log1 disk1 spare1 say result2 log2 disk2 spare2) where
@@ -149,10 +150,11 @@ module _ (s : ServerState) (steady : IsSteady s) (booted : 0 < s.clock.boot) (ol
         (subst (λ (k : KeptLogState). OnSide (opposite k.side) disk1 spare1 disk2 spare2 (IsPassed k.generation)) same1 all.crash)
 
     pub snapshot_fails : (answer : Result (Unit {0}) Failed) (e : Failed) → answer ≡ Err e → (new : KeptLogState) → Renews s old disk spare answer new disk2 spare2
-    snapshot_fails answer e is new = record { crash = passed disk2 spare2 put_crash; kept = λ x ok. absurd (cc (is, ok)) }
+    snapshot_fails answer e is new = record { crash = passed disk2 spare2 put_crash; kept = λ x ok. absurd (cc (is, ok)); size = λ x ok. absurd (cc (is, ok)) }
 
     module _ (x2 : Unit {0}) (ok2 : result2 ≡ Ok x2) (same2 : log2 ≡ record log1 { renewed = log2.renewed }) (result3 : Result (Unit {0}) Failed) (new : KeptLogState) (disk3 spare3 : Option DiskLife)
-        (ends : (say : TwinLog) (put : List (List ℕ)) → RenewsTwin log2 say put disk2 spare2 → EndsRenewal log2 disk2 spare2 put result3 new disk3 spare3) where
+        (ends : (say : TwinLog) (put : List (List ℕ)) → RenewsTwin log2 say put disk2 spare2 → EndsRenewal log2 disk2 spare2 put result3 new disk3 spare3)
+        (renewed : OnOk result3 (HasRenewed log2 new)) where
       ended : EndsRenewal log2 disk2 spare2 all.put result3 new disk3 spare3
       ended = ends says all.put (all.kept x2 ok2)
 
@@ -173,4 +175,5 @@ module _ (s : ServerState) (steady : IsSteady s) (booted : 0 < s.clock.boot) (ol
             (weaker_on (opposite old.side) _ PassedOrRenewed disk2 spare2 disk3 spare3 says_it
             (subst (λ (k : KeptLogState). OnSide (opposite k.side) disk2 spare2 disk3 spare3 (λ left. IsPassed k.generation left ⊎ IsFileOf (next_generation k.generation) (renewed_place (next_generation k.generation)) all.put left)) same ended.crash));
         kept = λ x ok. log_of s new (next_generation log2.generation) (renewed_place (next_generation log2.generation)) all.put disk3 spare3 (ended.kept x ok) (plays (renewed_place (next_generation log2.generation)));
+        size = λ x ok. sized s new (next_generation log2.generation) all.put disk3 spare3 (ended.kept x ok) (at_ok result3 x ok renewed).size (all.bodies x2 ok2);
       }

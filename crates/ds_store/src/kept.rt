@@ -131,7 +131,7 @@ impl KeptServer {
         ensures logs { (before : ServerState) → IsLogOf before self.old.log (D.told disk.old) (D.told spare.old) → before.number ≡ self.old.server.number → applied_bytes (durable before) message.now ≡ Some (durable self.old.server) → LogsStep before self.old.server (D.told disk.old) (D.told spare.old) result self.new.log (D.told disk.new) (D.told spare.new) }
         ensures server { self.new.server ≡ self.old.server }
         ensures spent { self.new.spent ≡ self.old.spent }
-        ensures bounded { IsBounded self.old.log result self.old.server self.new.log (D.told disk.new) (D.told spare.new) }
+        ensures bounded { (before : ServerState) → IsLogOf before self.old.log (D.told disk.old) (D.told spare.old) → IsBounded self.old.log result self.old.server self.new.log (D.told disk.new) (D.told spare.new) }
         ensures faults { CountsTwins result (D.faults disk.old) (D.faults spare.old) (D.faults disk.new) (D.faults spare.new) }
     {
         self.log.append(disk, spare, message)?;
@@ -152,7 +152,7 @@ impl KeptServer {
         ensures logs { (before : ServerState) → IsLogOf before self.old.log (D.told disk.old) (D.told spare.old) → before.number ≡ self.old.server.number → applied_bytes (durable before) message.now ≡ Some (durable self.old.server) → LogsStep before self.old.server (D.told disk.old) (D.told spare.old) result self.new.log (D.told disk.new) (D.told spare.new) }
         ensures server { self.new.server ≡ self.old.server }
         ensures spent { SpendsBy result self.new.spent }
-        ensures bounded { IsBounded self.old.log result self.old.server self.new.log (D.told disk.new) (D.told spare.new) }
+        ensures bounded { (before : ServerState) → IsLogOf before self.old.log (D.told disk.old) (D.told spare.old) → IsBounded self.old.log result self.old.server self.new.log (D.told disk.new) (D.told spare.new) }
         ensures faults { CountsTwins (plain_fault result) (D.faults disk.old) (D.faults spare.old) (D.faults disk.new) (D.faults spare.new) }
     {
         match self.append_and_renew(disk, spare, message) {

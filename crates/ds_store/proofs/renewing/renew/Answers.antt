@@ -16,4 +16,4 @@ returns-clause-renews g c = λ says stands.
     c.begin.result c.begin.new.self (g.D.Disk.told c.begin.new.disk) (g.D.Disk.told c.begin.new.spare) c.begin.ensures.begins c.in_ok-begin.field-0 c.in_ok-begin.was c.begin.ensures.keeps
     c.put_snapshot.result c.put_snapshot.new.log (g.D.Disk.told c.put_snapshot.new.disk) (g.D.Disk.told c.put_snapshot.new.spare) c.put_snapshot.ensures.puts
     c.in_ok-put_snapshot.field-0 c.in_ok-put_snapshot.was c.put_snapshot.ensures.keeps
-    c.end.result c.end.new.self (g.D.Disk.told c.end.new.disk) (g.D.Disk.told c.end.new.spare) c.end.ensures.ends
+    c.end.result c.end.new.self (g.D.Disk.told c.end.new.disk) (g.D.Disk.told c.end.new.spare) c.end.ensures.ends c.end.ensures.renewed

@@ -17,7 +17,7 @@ returns-in-Err-clause-broken g c =
     let new = c.answer_record.new in
     let steps = goes_on old.spent after old told told_spare c.answer_record.result new.self (g.D.Disk.told new.disk) (g.D.Disk.told new.spare) (search rules) c.answer_record.ensures.steps in
     subst (λ (k : KeptState). LeavesBothNow (g.D.Disk.told new.disk) (g.D.Disk.told new.spare) (SaysEither k.server (outcome_of k.server c.args.bytes.now).server)) c.self.view_is
-    (leaves_either after old told told_spare c.answer_record.result (g.D.Disk.told new.disk) (g.D.Disk.told new.spare) steps.1 c.answer_record.ensures.tells)
+    (leaves_either after old told told_spare c.answer_record.result (g.D.Disk.told new.disk) (g.D.Disk.told new.spare) steps.1)
 
 pub returns-in-Err-clause-faults : goal.returns-in-Err-clause-faults
 returns-in-Err-clause-faults g c =

@@ -3,6 +3,7 @@ use Rattle.std.proofs.lemmas.Result.{err_from_is_err_and}
 use Rattle.ds_procedures.specs.CodePlans.{plain_effect}
 use Rattle.ds_store.specs.Kept.{IsRecordOf, KeptState}
 use Rattle.ds_store.proofs.Keeping.{booted_on, none_logged, not_done, steady_on, becomes, is_crash_safe, stands_then}
+use Rattle.ds_store.proofs.Bounding.{limit_on}
 use Rattle.ds_store.proofs.kept.KeptServer.keep.Goals as goal
 
 pub invariant_of-self-in-Some : goal.invariant_of-self-in-Some
@@ -10,6 +11,7 @@ invariant_of-self-in-Some g c = (
   steady_on c.self.inside.server c.args.self.now.server c.carry_out.new.self (plain_effect c.args.effect.now) (ap (λ (k : KeptState). k.server) c.self.view_is) c.self.invariant.0 c.requires.can c.in_ok-carry_out.ensures.ok,
   booted_on c.self.inside.server c.args.self.now.server c.carry_out.new.self (plain_effect c.args.effect.now) (ap (λ (k : KeptState). k.server) c.self.view_is) c.self.invariant.1 c.requires.can c.in_ok-carry_out.ensures.ok,
   c.self.invariant.2,
+  limit_on c.self.inside.server c.args.self.now.server c.carry_out.new.self (plain_effect c.args.effect.now) c.self.inside.limit (ap (λ (k : KeptState). k.server) c.self.view_is) c.self.invariant.0 c.requires.can c.in_ok-carry_out.ensures.ok c.self.invariant.3,
 )
 
 pub invariant_of-self-in-None : goal.invariant_of-self-in-None
@@ -17,6 +19,7 @@ invariant_of-self-in-None g c = (
   steady_on c.self.inside.server c.args.self.now.server c.carry_out.new.self (plain_effect c.args.effect.now) (ap (λ (k : KeptState). k.server) c.self.view_is) c.self.invariant.0 c.requires.can c.in_ok-carry_out.ensures.ok,
   booted_on c.self.inside.server c.args.self.now.server c.carry_out.new.self (plain_effect c.args.effect.now) (ap (λ (k : KeptState). k.server) c.self.view_is) c.self.invariant.1 c.requires.can c.in_ok-carry_out.ensures.ok,
   c.self.invariant.2,
+  limit_on c.self.inside.server c.args.self.now.server c.carry_out.new.self (plain_effect c.args.effect.now) c.self.inside.limit (ap (λ (k : KeptState). k.server) c.self.view_is) c.self.invariant.0 c.requires.can c.in_ok-carry_out.ensures.ok c.self.invariant.3,
 )
 
 pub returns-in-Some-clause-becomes : goal.returns-in-Some-clause-becomes
