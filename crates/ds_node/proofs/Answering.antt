@@ -66,15 +66,15 @@ counts_sum (Err failed.Fault) d s d' s' (inr h) = ap (λ (n : ℕ). both_faults 
 counts_sum (Err failed.NoMemory) d s d' s' h = ap (λ (n : ℕ). both_faults n s') h.0 ∙ ap (λ (n : ℕ). both_faults d n) h.1
 
 -- of a record that was not answered
-pub event_sum : {T : Type 0} (after : ServerState) (old : KeptState) (disk spare : Option DiskLife) (e : StoreFault) (new : KeptState) (disk' spare' : Option DiskLife) (d s d' s' : ℕ)
+pub event_sum : (T : Type 0) (after : ServerState) (old : KeptState) (disk spare : Option DiskLife) (e : StoreFault) (new : KeptState) (disk' spare' : Option DiskLife) (d s d' s' : ℕ)
     → Becomes {T = T} after old disk spare (Err e) new disk' spare' → CountsTwins (plain_fault {T = T} (Err e)) d s d' s' → both_faults d' s' ≡ disk_counted {T = Bool} (Err (event_fault e)) (both_faults d s)
-event_sum after old disk spare store.Disk new disk' spare' d s d' s' becomes h = counts_sum {T = Unit {0}} (Err failed.Fault) d s d' s' h
-event_sum after old disk spare store.Broken new disk' spare' d s d' s' becomes h = absurd becomes
-event_sum after old disk spare store.NoMemory new disk' spare' d s d' s' becomes h = counts_sum {T = Unit {0}} (Err failed.NoMemory) d s d' s' h
+event_sum T after old disk spare store.Disk new disk' spare' d s d' s' becomes h = counts_sum {T = Unit {0}} (Err failed.Fault) d s d' s' h
+event_sum T after old disk spare store.Broken new disk' spare' d s d' s' becomes h = absurd becomes
+event_sum T after old disk spare store.NoMemory new disk' spare' d s d' s' becomes h = counts_sum {T = Unit {0}} (Err failed.NoMemory) d s d' s' h
 
 -- of a log that could not be opened
-pub opening_sum : {T : Type 0} (e : OpenCause) (d s d' s' : ℕ) → CountsTwins (plain_open {T = T} (Err e)) d s d' s' → both_faults d' s' ≡ disk_faults (end_of_opening e) (both_faults d s)
-opening_sum cause.Disk d s d' s' h = counts_sum {T = Unit {0}} (Err failed.Fault) d s d' s' h
-opening_sum (cause.BadLog place) d s d' s' h = counts_sum {T = Unit {0}} (Ok tt) d s d' s' h
-opening_sum cause.BootsSpent d s d' s' h = counts_sum {T = Unit {0}} (Ok tt) d s d' s' h
-opening_sum cause.NoMemory d s d' s' h = counts_sum {T = Unit {0}} (Err failed.NoMemory) d s d' s' h
+pub opening_sum : (T : Type 0) (e : OpenCause) (d s d' s' : ℕ) → CountsTwins (plain_open {T = T} (Err e)) d s d' s' → both_faults d' s' ≡ disk_faults (end_of_opening e) (both_faults d s)
+opening_sum T cause.Disk d s d' s' h = counts_sum {T = Unit {0}} (Err failed.Fault) d s d' s' h
+opening_sum T (cause.BadLog place) d s d' s' h = counts_sum {T = Unit {0}} (Ok tt) d s d' s' h
+opening_sum T cause.BootsSpent d s d' s' h = counts_sum {T = Unit {0}} (Ok tt) d s d' s' h
+opening_sum T cause.NoMemory d s d' s' h = counts_sum {T = Unit {0}} (Err failed.NoMemory) d s d' s' h

@@ -13,7 +13,7 @@ pub returns-in-Err-clause-keeps : goal.returns-in-Err-clause-keeps
 returns-in-Err-clause-keeps g c =
     let faults = g.D.Disk.faults c.args.disk.now in
     let spare_faults = g.D.Disk.faults c.args.spare.now in
-    opening_sum {T = KeptState} c.in-Err.cause faults spare_faults (g.D.Disk.faults c.open.new.disk) (g.D.Disk.faults c.open.new.spare) c.in-Err.ensures.faults
+    opening_sum KeptState c.in-Err.cause faults spare_faults (g.D.Disk.faults c.open.new.disk) (g.D.Disk.faults c.open.new.spare) c.in-Err.ensures.faults
     ∙ ap (λ (e : NodeEnd). disk_faults e (both_faults faults spare_faults)) (sym c.end_of_opening.ensures)
 
 pub returns-clause-keeps : goal.returns-clause-keeps

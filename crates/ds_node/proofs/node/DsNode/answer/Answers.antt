@@ -29,7 +29,7 @@ returns-in-Err-clause-faults g c =
     let spare_faults = g.D.Disk.faults c.args.spare.now in
     let new = c.answer_record.new in
     let steps = goes_on {T = Unit {0}} old.spent after old told told_spare (Err c.in-Err.fault) new.self (g.D.Disk.told new.disk) (g.D.Disk.told new.spare) (search rules) c.in-Err.ensures.steps in
-    event_sum {T = Unit {0}} after old told told_spare c.in-Err.fault new.self (g.D.Disk.told new.disk) (g.D.Disk.told new.spare) faults spare_faults (g.D.Disk.faults new.disk) (g.D.Disk.faults new.spare) steps.0 c.in-Err.ensures.faults
+    event_sum (Unit {0}) after old told told_spare c.in-Err.fault new.self (g.D.Disk.told new.disk) (g.D.Disk.told new.spare) faults spare_faults (g.D.Disk.faults new.disk) (g.D.Disk.faults new.spare) steps.0 c.in-Err.ensures.faults
     ∙ ap (λ (e : EventFault). disk_counted {T = Bool} (Err e) (both_faults faults spare_faults)) (sym c.fault_of.ensures)
 
 pub returns-clause-none : goal.returns-clause-none
