@@ -19,7 +19,7 @@ use Rattle.ds_snapshot.specs.Snapshots.{AreBodiesOf, body_text, snapshot_of}
 use Rattle.ds_snapshot.specs.Sizes.{bodies_size, snapshot_size}
 use Rattle.ds_store.specs.declared.fault.StoreFault.{StoreFault}
 use Rattle.ds_store.specs.Kept.{IsLogOf, KeepsServer, KeptState}
-use Rattle.ds_store.specs.Renewals.{HasRenewedSize, IsBounded, IsWithinLimit, Renews, log_limit, renewed_size}
+use Rattle.ds_store.specs.Renewals.{HasRenewedSize, IsLogBounded, IsWithinLimit, Renews, log_limit, renewed_size}
 use Rattle.ds_store.proofs.Growing.{grows}
 
 -- ---- the size of a renewed log
@@ -91,27 +91,27 @@ within_renewed s log is next = renewed_within log.size (snapshot_size (durable s
 -- ---- what a call leaves
 
 -- the log is as it was
-pub same_bounded : {T E : Type 0} (old : KeptLogState) (result : Result T E) (s : ServerState) (new : KeptLogState) (disk spare : Option DiskLife) → new ≡ old → IsBounded old result s new disk spare
+pub same_bounded : {T E : Type 0} (old : KeptLogState) (result : Result T E) (s : ServerState) (new : KeptLogState) (disk spare : Option DiskLife) → new ≡ old → IsLogBounded old result s new disk spare
 same_bounded old (Err e) s new disk spare same = tt
 same_bounded old (Ok x) s new None spare same = tt
 same_bounded old (Ok x) s new (Some disk) None same = tt
 same_bounded old (Ok x) s new (Some disk) (Some spare) same = inl same
 
 -- it is within its limit
-pub within_bounded : {T E : Type 0} (old : KeptLogState) (result : Result T E) (s : ServerState) (new : KeptLogState) (disk spare : Option DiskLife) → IsWithinLimit s new → IsBounded old result s new disk spare
+pub within_bounded : {T E : Type 0} (old : KeptLogState) (result : Result T E) (s : ServerState) (new : KeptLogState) (disk spare : Option DiskLife) → IsWithinLimit s new → IsLogBounded old result s new disk spare
 within_bounded old (Err e) s new disk spare within = tt
 within_bounded old (Ok x) s new None spare within = tt
 within_bounded old (Ok x) s new (Some disk) None within = tt
 within_bounded old (Ok x) s new (Some disk) (Some spare) within = inr within
 
 -- a call that failed says nothing
-pub failed_bounded : {T E : Type 0} (old : KeptLogState) (result : Result T E) (s : ServerState) (new : KeptLogState) (disk spare : Option DiskLife) (e : E) → result ≡ Err e → IsBounded old result s new disk spare
+pub failed_bounded : {T E : Type 0} (old : KeptLogState) (result : Result T E) (s : ServerState) (new : KeptLogState) (disk spare : Option DiskLife) (e : E) → result ≡ Err e → IsLogBounded old result s new disk spare
 failed_bounded old (Err e) s new disk spare f is = tt
 failed_bounded old (Ok x) s new disk spare f is = absurd (cc (is))
 
 -- the same call, as it is answered
 pub bounded_as : {T U E F : Type 0} (old : KeptLogState) (result : Result T E) (answer : Result U F) (s : ServerState) (new : KeptLogState) (disk spare : Option DiskLife) (x : T) → result ≡ Ok x
-    → IsBounded old result s new disk spare → IsBounded old answer s new disk spare
+    → IsLogBounded old result s new disk spare → IsLogBounded old answer s new disk spare
 bounded_as old (Err e) answer s new disk spare x is h = absurd (cc (is))
 bounded_as old (Ok y) (Err f) s new disk spare x is h = tt
 bounded_as old (Ok y) (Ok z) s new None spare x is h = tt
@@ -119,19 +119,19 @@ bounded_as old (Ok y) (Ok z) s new (Some disk) None x is h = tt
 bounded_as old (Ok y) (Ok z) s new (Some disk) (Some spare) x is h = h
 
 -- disks of which one tells nothing
-no_disk : {T E : Type 0} (old : KeptLogState) (result : Result T E) (s : ServerState) (new : KeptLogState) (disk spare : Option DiskLife) → disk ≡ None → IsBounded old result s new disk spare
+no_disk : {T E : Type 0} (old : KeptLogState) (result : Result T E) (s : ServerState) (new : KeptLogState) (disk spare : Option DiskLife) → disk ≡ None → IsLogBounded old result s new disk spare
 no_disk old (Err e) s new disk spare none = tt
 no_disk old (Ok x) s new None spare none = tt
 no_disk old (Ok x) s new (Some d) spare none = absurd (cc (none))
 
-no_spare : {T E : Type 0} (old : KeptLogState) (result : Result T E) (s : ServerState) (new : KeptLogState) (disk spare : Option DiskLife) → spare ≡ None → IsBounded old result s new disk spare
+no_spare : {T E : Type 0} (old : KeptLogState) (result : Result T E) (s : ServerState) (new : KeptLogState) (disk spare : Option DiskLife) → spare ≡ None → IsLogBounded old result s new disk spare
 no_spare old (Err e) s new disk spare none = tt
 no_spare old (Ok x) s new None spare none = tt
 no_spare old (Ok x) s new (Some d) None none = tt
 no_spare old (Ok x) s new (Some d) (Some sp) none = absurd (cc (none))
 
 -- it has the size of a renewed one
-size_bounded : {T E : Type 0} (old : KeptLogState) (result : Result T E) (s : ServerState) (new : KeptLogState) (disk spare : Option DiskLife) → ((x : T) → result ≡ Ok x → HasRenewedSize s new disk spare) → IsBounded old result s new disk spare
+size_bounded : {T E : Type 0} (old : KeptLogState) (result : Result T E) (s : ServerState) (new : KeptLogState) (disk spare : Option DiskLife) → ((x : T) → result ≡ Ok x → HasRenewedSize s new disk spare) → IsLogBounded old result s new disk spare
 size_bounded old (Err e) s new disk spare size = tt
 size_bounded old (Ok x) s new None spare size = tt
 size_bounded old (Ok x) s new (Some disk) None size = tt
@@ -142,7 +142,7 @@ pub renew_bounded : (before after : ServerState) (body : List ℕ) (old log : Ke
     → ((generation start : ℕ) (bodies : List (List ℕ)) → StandsTwin log (Has generation start bodies) disk spare → AppendsTwin {E = Failed} log disk spare generation start bodies body (Ok x) log1 disk1 spare1)
     → TellAsBefore disk spare disk1 spare1
     → (result : Result (Unit {0}) Failed) (log2 : KeptLogState) (disk2 spare2 : Option DiskLife) → ((says : TwinLog) → StandsTwin log1 says disk1 spare1 → Renews after log1 disk1 spare1 result log2 disk2 spare2)
-    → TellAsBefore disk spare disk2 spare2 → IsBounded old result after log2 disk2 spare2
+    → TellAsBefore disk spare disk2 spare2 → IsLogBounded old result after log2 disk2 spare2
 renew_bounded before after body old log None spare x log1 disk1 spare1 keeps appends tells result log2 disk2 spare2 renews tells2 = no_disk old result after log2 disk2 spare2 tells2.0
 renew_bounded before after body old log (Some d) None x log1 disk1 spare1 keeps appends tells result log2 disk2 spare2 renews tells2 = no_spare old result after log2 disk2 spare2 tells2.1
 renew_bounded before after body old log (Some d) (Some sp) x log1 disk1 spare1 keeps appends tells result log2 disk2 spare2 renews tells2 =

@@ -1,5 +1,5 @@
 -- What a log was opened as, and what crashes leave on the way.
-use Rattle.std.proofs.Common.{◌≡◌, ℕ, Option, Some, None, Result, Ok, Err, inl, inr, refl, sym, subst}
+use Rattle.std.proofs.Common.{◌≡◌, ℕ, Option, Some, None, Result, Ok, Err, inl, inr, refl, sym, subst, ◌∙◌}
 use Rattle.cluster_model.specs.Server.{ServerState}
 use Rattle.store_disk.specs.Disks.{DiskLife}
 use Rattle.twin_log.specs.Twins.{TwinLog, twin_log}
@@ -9,7 +9,7 @@ use Rattle.ds_store.specs.declared.fault.OpenCause.{OpenCause}
 use Rattle.ds_store.specs.declared.fault.OpenCause.TheVariants.{Disk, BadLog, BootsSpent, NoMemory}
 use Rattle.ds_store.specs.Kept.{KeptState, LeavesBoth, said_by}
 use Rattle.ds_store.specs.Opens.{LeavesOpened, LeavesRefused, OpensLog, SaysBooting, StandsOpened}
-use Rattle.ds_store.specs.Reading.{BeginsBoot, HasLasting, HasSaid, ReadsAll, ReadsLog}
+use Rattle.ds_store.specs.Reading.{BeginsBoot, HasLasting, HasSaid, ReadsWhole, ReadsLog}
 
 -- ---- nothing was logged
 
@@ -19,8 +19,8 @@ at_told P disk spare disk' spare' same same_spare h = subst (λ (t : Option Disk
 
 -- nothing but a sync was done to them
 pub leaves_not : (number : ℕ) (disk spare mid mid_spare disk' spare' : Option DiskLife) → LeavesAsBefore disk mid → LeavesAsBefore spare mid_spare → disk' ≡ mid → spare' ≡ mid_spare → LeavesOpened number disk spare disk' spare'
-leaves_not number None spare mid mid_spare disk' spare' before before_spare same same_spare = tt
-leaves_not number (Some d) None mid mid_spare disk' spare' before before_spare same same_spare = tt
+leaves_not number None spare mid mid_spare disk' spare' before before_spare same same_spare = same ∙ before
+leaves_not number (Some d) None mid mid_spare disk' spare' before before_spare same same_spare = same_spare ∙ before_spare
 leaves_not number (Some d) (Some s) mid mid_spare disk' spare' before before_spare same same_spare =
     record { mid = mid; mid_spare = mid_spare; before = before; before_spare = before_spare; behind = inl (same, same_spare) }
 
@@ -29,7 +29,7 @@ leaves_not number (Some d) (Some s) mid mid_spare disk' spare' before before_spa
 module _ (number : ℕ) (opened log : KeptLogState) (mid mid_spare : Option DiskLife) where
   -- what was read is what the files say
   read_all : (d s : DiskLife) (result : Result ServerState OpenCause) → OpensTwin (Some d) (Some s) (Ok opened) mid mid_spare → ReadsLog number opened mid mid_spare result log
-      → ReadsAll number (twin_log d.now.seen s.now.seen) mid mid_spare result log
+      → ReadsWhole number (twin_log d.now.seen s.now.seen) mid mid_spare result log
   read_all d s result opens reads =
       let says : TwinLog = twin_log d.now.seen s.now.seen in
       let life : IsSyncedFrom d mid = opens.2 in
@@ -38,8 +38,8 @@ module _ (number : ℕ) (opened log : KeptLogState) (mid mid_spare : Option Disk
       subst (λ (t : Option DiskLife). ReadsLog number opened (Some life.0) t result log) life_spare.1 (subst (λ (t : Option DiskLife). ReadsLog number opened t mid_spare result log) life.1 reads) in
       let stands : StandsTwin opened says (Some life.0) (Some life_spare.0) =
       subst (λ (t : Option DiskLife). StandsTwin opened says (Some life.0) t) life_spare.1 (subst (λ (t : Option DiskLife). StandsTwin opened says t mid_spare) life.1 opens.0) in
-      let all : ReadsAll number says (Some life.0) (Some life_spare.0) result log = here says stands opens.1 in
-      subst (λ (t : Option DiskLife). ReadsAll number says t mid_spare result log) (sym life.1) (subst (λ (t : Option DiskLife). ReadsAll number says (Some life.0) t result log) (sym life_spare.1) all)
+      let all : ReadsWhole number says (Some life.0) (Some life_spare.0) result log = here says stands opens.1 in
+      subst (λ (t : Option DiskLife). ReadsWhole number says t mid_spare result log) (sym life.1) (subst (λ (t : Option DiskLife). ReadsWhole number says (Some life.0) t result log) (sym life_spare.1) all)
 
   -- ---- the next boot
 
@@ -60,10 +60,10 @@ module _ (number : ℕ) (opened log : KeptLogState) (mid mid_spare : Option Disk
 
     module _ (disk' spare' : Option DiskLife) where
       pub boots_leaves : (disk spare : Option DiskLife) → OpensTwin disk spare (Ok opened) mid mid_spare → LeavesAsBefore disk mid → LeavesAsBefore spare mid_spare
-          → (HasLasting said log mid mid_spare → LeavesBoth mid mid_spare disk' spare' (SaysBooting said.number (Ok said))) → LeavesOpened number disk spare disk' spare'
-      boots_leaves None spare opens before before_spare crash = tt
-      boots_leaves (Some d) None opens before before_spare crash = tt
-      boots_leaves (Some d) (Some s) opens before before_spare crash =
+          → (HasLasting said log mid mid_spare → LeavesBoth mid mid_spare disk' spare' (SaysBooting said.number (Ok said))) → TellAsBefore mid mid_spare disk' spare' → LeavesOpened number disk spare disk' spare'
+      boots_leaves None spare opens before before_spare crash tells = subst (λ (t : Option DiskLife). TellsAsBefore t disk') before tells.0
+      boots_leaves (Some d) None opens before before_spare crash tells = subst (λ (t : Option DiskLife). TellsAsBefore t spare') before_spare tells.1
+      boots_leaves (Some d) (Some s) opens before before_spare crash tells =
           let is : HasSaid number (twin_log d.now.seen s.now.seen) said = (read_all d s (Ok said) opens reads).0 in
           let leaves : LeavesBoth mid mid_spare disk' spare' (SaysBooting number (said_by number (twin_log d.now.seen s.now.seen))) =
           subst (λ (r : Result ServerState ℕ). LeavesBoth mid mid_spare disk' spare' (SaysBooting number r)) (sym is.said)

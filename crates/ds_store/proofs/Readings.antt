@@ -18,7 +18,7 @@ use Rattle.ds_log.proofs.Plays.{played_push, played_bad}
 use Rattle.ds_log.proofs.Lasts.{played_lasts, unbooted_lasts}
 use Rattle.ds_store.specs.declared.fault.OpenCause.TheVariants.{BadLog}
 use Rattle.ds_store.specs.Opens.{cause_of_log}
-use Rattle.ds_store.specs.Reading.{HasSaid, ReadsAll, ReadsLog}
+use Rattle.ds_store.specs.Reading.{HasSaid, ReadsWhole, ReadsLog}
 use Rattle.ds_store.proofs.Numbers.{played_number}
 
 -- So many bodies of the log were read, and they say this server.
@@ -71,7 +71,7 @@ module _ (number generation start : ℕ) (bodies : List (List ℕ)) (disk spare 
       (reads generation start p.done p.rest (subst (λ (bs : List (List ℕ)). StandsTwin log (Has generation start bs) (Some disk) (Some spare)) p.split p.stands) p.read)
 
   -- there was none more
-  ended : ReadsOn start p.done p.rest log (Ok false) body new → ReadsAll number (Has generation start bodies) (Some disk) (Some spare) (Ok s) new
+  ended : ReadsOn start p.done p.rest log (Ok false) body new → ReadsWhole number (Has generation start bodies) (Some disk) (Some spare) (Ok s) new
   ended reads =
       let all : bodies ≡ p.done = p.split ∙ ap (λ (rest : List (List ℕ)). p.done ++ rest) reads.0 ∙ append-nil p.done in
       let here : HasSaid number (Has generation start bodies) s = record {
@@ -106,7 +106,7 @@ module _ (number generation start : ℕ) (bodies : List (List ℕ)) (disk spare 
 -- ---- a log, on disks that may tell nothing
 
 module _ (number : ℕ) (old log : KeptLogState) (s : ServerState) (body : List ℕ) (new : KeptLogState) where
-  fails_as : (e : LogCause) (says : TwinLog) (disk spare : DiskLife) → Played number says disk spare log s → ReadsTwin log (Some disk) (Some spare) (Err e) body new → ReadsAll number says (Some disk) (Some spare) (Err (cause_of_log e)) new
+  fails_as : (e : LogCause) (says : TwinLog) (disk spare : DiskLife) → Played number says disk spare log s → ReadsTwin log (Some disk) (Some spare) (Err e) body new → ReadsWhole number says (Some disk) (Some spare) (Err (cause_of_log e)) new
   fails_as log_cause.Disk says disk spare p reads = tt
   fails_as log_cause.NoMemory says disk spare p reads = tt
   fails_as (log_cause.BadLog place) New disk spare p reads = absurd p
@@ -119,7 +119,7 @@ module _ (number : ℕ) (old log : KeptLogState) (s : ServerState) (body : List 
   reads_fails (Some disk) None e p reads = tt
   reads_fails (Some disk) (Some spare) e p reads = λ says stands first. fails_as e says disk spare (p says stands first) reads
 
-  ended_as : (says : TwinLog) (disk spare : DiskLife) → Played number says disk spare log s → ReadsTwin log (Some disk) (Some spare) (Ok false) body new → ReadsAll number says (Some disk) (Some spare) (Ok s) new
+  ended_as : (says : TwinLog) (disk spare : DiskLife) → Played number says disk spare log s → ReadsTwin log (Some disk) (Some spare) (Ok false) body new → ReadsWhole number says (Some disk) (Some spare) (Ok s) new
   ended_as New disk spare p reads = absurd p
   ended_as (Has generation start bodies) disk spare p reads = ended number generation start bodies disk spare log s p body new (reads_of number generation start bodies disk spare log s p body new (Ok false) reads)
   ended_as (Bad place) disk spare p reads = absurd p
@@ -130,7 +130,7 @@ module _ (number : ℕ) (old log : KeptLogState) (s : ServerState) (body : List 
   reads_ended (Some disk) None p reads = tt
   reads_ended (Some disk) (Some spare) p reads = λ says stands first. ended_as says disk spare (p says stands first) reads
 
-  bad_as : (says : TwinLog) (disk spare : DiskLife) → Played number says disk spare log s → ReadsTwin log (Some disk) (Some spare) (Ok true) body new → applied_bytes s body ≡ None → ReadsAll number says (Some disk) (Some spare) (Err (BadLog new.place)) new
+  bad_as : (says : TwinLog) (disk spare : DiskLife) → Played number says disk spare log s → ReadsTwin log (Some disk) (Some spare) (Ok true) body new → applied_bytes s body ≡ None → ReadsWhole number says (Some disk) (Some spare) (Err (BadLog new.place)) new
   bad_as New disk spare p reads none = absurd p
   bad_as (Has generation start bodies) disk spare p reads none = unfit number generation start bodies disk spare log s p body new (reads_of number generation start bodies disk spare log s p body new (Ok true) reads) none
   bad_as (Bad place) disk spare p reads none = absurd p

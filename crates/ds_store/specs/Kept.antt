@@ -1,5 +1,5 @@
 -- A data server that is kept on two disks: what they say together, at any moment.
-use Rattle.std.specs.Prelude.{⊤, ◌≡◌, ◌⊎◌, ℕ, ◌++◌, List, Option, Some, None, Result, Ok, Err}
+use Rattle.std.specs.Prelude.{⊤, ◌≡◌, ◌⊎◌, ℕ, List, [], ◌∷◌, ◌++◌, length, Option, Some, None, Result, Ok, Err}
 use Rattle.rpc_record.specs.declared.stream.Failed.TheVariants as failed
 use Rattle.rpc_record.specs.declared.stream.Failed.{Failed}
 use Rattle.cluster_model.specs.declared.ids.NodeId.{NodeId}
@@ -11,7 +11,8 @@ use Rattle.ds_files.specs.Receive.{Outcome}
 use Rattle.ds_files.specs.Records.{sent_to}
 use Rattle.store_disk.specs.Disks.{DiskLife, LeavesNow, LeavesSince}
 use Rattle.twin_log.specs.Twins.{TwinLog, New, Has, Bad, twin_log}
-use Rattle.twin_log.specs.KeptLogs.{KeptLogState, StandsTwin}
+use Rattle.twin_log.specs.KeptLogs.{IsFileOf, KeptLogState, StandsTwin, WaitsTwin}
+use Rattle.twin_log.specs.LogCalls.{OnSide, staged_log}
 use Rattle.ds_log.specs.Durable.{applied_bytes, durable, played, unbooted}
 use Rattle.ds_store.specs.declared.fault.StoreFault.{StoreFault}
 use Rattle.ds_store.specs.declared.fault.StoreFault.TheVariants.{Disk, Broken, NoMemory}
@@ -83,6 +84,32 @@ IsLogOf s log (Some disk) (Some spare) = KeepsServer s log (Some disk) (Some spa
 abbrev pub StandsOnDisks : KeptState → Option DiskLife → Option DiskLife → Type 0
 StandsOnDisks k disk spare = k.spent ≡ None → IsLogOf k.server k.log disk spare
 
+-- ---- records that wait
+
+-- the log, and behind it records that wait, where there are some
+abbrev pub StandsOrWaits : KeptLogState → ℕ → ℕ → List (List ℕ) → List (List ℕ) → Option DiskLife → Option DiskLife → Type 0
+StandsOrWaits log generation start bodies [] disk spare = StandsTwin log (Has generation start bodies) disk spare
+StandsOrWaits log generation start bodies (body ∷ waiting) disk spare = WaitsTwin log generation start bodies (body ∷ waiting) disk spare
+
+-- The log says what lasts of the settled server, and has since a moment, whatever a crash did; with the records that wait behind it, what lasts of
+-- this one.
+pub record WaitsServer (settled s : ServerState) (log : KeptLogState) (began began_spare disk spare : Option DiskLife) : Type 0 where
+  pub number : settled.number ≡ s.number
+  pub generation : ℕ
+  pub start : ℕ
+  pub bodies : List (List ℕ)
+  pub waiting : List (List ℕ)
+  pub stands : StandsOrWaits log generation start bodies waiting disk spare
+  pub crash : OnSide log.side began began_spare disk spare (IsFileOf generation start bodies)
+  pub says : played (unbooted settled.number) start bodies ≡ Ok (durable settled)
+  pub says_then : played (unbooted settled.number) start (bodies ++ waiting) ≡ Ok (durable s)
+
+-- the same of disks that may tell nothing
+abbrev pub WaitsSince : ServerState → ServerState → KeptLogState → Option DiskLife → Option DiskLife → Option DiskLife → Option DiskLife → Type 0
+WaitsSince settled s log None began_spare disk spare = disk ≡ None
+WaitsSince settled s log (Some began) None disk spare = spare ≡ None
+WaitsSince settled s log (Some began) (Some began_spare) disk spare = WaitsServer settled s log (Some began) (Some began_spare) disk spare
+
 -- ---- what a call does
 
 -- Whenever a crash comes, during a call that makes the one server of the other or behind it, it leaves the one or the other; and once it is
@@ -107,6 +134,45 @@ abbrev pub StepsSafely : {T : Type 0} → Option StoreFault → ServerState → 
 StepsSafely None after old disk spare result new disk' spare' = Becomes after old disk spare result new disk' spare' × IsCrashSafe old.server after disk spare result disk' spare'
 StepsSafely (Some fault) after old disk spare result new disk' spare' = (result ≡ Err fault) × (new ≡ old) × AreSameDisks disk spare disk' spare'
 
+-- What a call did that makes this server of it, and whose record waits then. One that is to be opened again answers why, and nothing has changed.
+abbrev pub TakesCall : {T : Type 0} → Option StoreFault → ServerState → KeptState → Option DiskLife → Option DiskLife → Result T StoreFault → KeptState → Option DiskLife → Option DiskLife → Type 0
+TakesCall None after old disk spare result new disk' spare' = Becomes after old disk spare result new disk' spare'
+TakesCall (Some fault) after old disk spare result new disk' spare' = (result ≡ Err fault) × (new ≡ old) × AreSameDisks disk spare disk' spare'
+
+-- Crashes since a moment leave the settled server; and once the call is taken, its record waits behind those that did.
+pub record TakesSince {T : Type 0} (settled : ServerState) (began began_spare : Option DiskLife) (result : Result T StoreFault) (new : KeptState) (disk' spare' : Option DiskLife) : Type 0 where
+  pub since : LeavesBoth began began_spare disk' spare' (SaysServer settled)
+  pub waits : (x : T) → result ≡ Ok x → WaitsSince settled new.server new.log began began_spare disk' spare'
+
+-- the log is as it was; or a record waits behind it with which it says the server behind the call
+abbrev pub WaitsForOne : ServerState → KeptLogState → ServerState → KeptLogState → Type 0
+WaitsForOne before old after new = (new ≡ old) ⊎ ((body : List ℕ) × (applied_bytes (durable before) body ≡ Some (durable after)) × (new ≡ staged_log old (length body)))
+
+-- how a failed call of the log ends a call, and what is answered from then on
+abbrev pub fault_of : Failed → StoreFault
+fault_of failed.Fault = Disk
+fault_of failed.NoMemory = NoMemory
+
+abbrev pub spent_of : Failed → StoreFault
+spent_of failed.Fault = Broken
+spent_of failed.NoMemory = NoMemory
+
+abbrev pub SpendsBy : {T : Type 0} → Result T StoreFault → Option StoreFault → Type 0
+SpendsBy (Ok x) spent = spent ≡ None
+SpendsBy (Err Disk) spent = spent ≡ Some Broken
+SpendsBy (Err Broken) spent = ⊥
+SpendsBy (Err NoMemory) spent = spent ≡ Some NoMemory
+
+-- What settling the records did that wait: the server is as it was. One that is to be opened again answers why, and nothing has changed.
+abbrev pub SettlesCall : Option StoreFault → KeptState → Option DiskLife → Option DiskLife → Result (Unit {0}) StoreFault → KeptState → Option DiskLife → Option DiskLife → Type 0
+SettlesCall None old disk spare result new disk' spare' = (new.server ≡ old.server) × SpendsBy result new.spent
+SettlesCall (Some fault) old disk spare result new disk' spare' = (result ≡ Err fault) × (new ≡ old) × AreSameDisks disk spare disk' spare'
+
+-- Crashes since a moment leave the settled server or this one; and once it is done the disks hold its log.
+pub record LogsStep {E : Type 0} (settled s : ServerState) (began began_spare : Option DiskLife) (result : Result (Unit {0}) E) (log : KeptLogState) (disk' spare' : Option DiskLife) : Type 0 where
+  pub since : LeavesBoth began began_spare disk' spare' (SaysEither settled s)
+  pub kept : (x : Unit {0}) → result ≡ Ok x → IsLogOf s log disk' spare'
+
 -- a result by what the calls of the disks answered
 abbrev pub plain_fault : {T : Type 0} → Result T StoreFault → Result (Unit {0}) Failed
 plain_fault (Ok x) = Ok tt
@@ -126,16 +192,3 @@ Posts logging outcome node (Err e) old new = IsAsBefore old new
 abbrev pub IsRecordOf : ServerState → Effect → Option (List ℕ) → Type 0
 IsRecordOf s effect None = durable (server_after s effect) ≡ durable s
 IsRecordOf s effect (Some body) = applied_bytes (durable s) body ≡ Some (durable (server_after s effect))
-
--- what is to be answered from then on
-abbrev pub SpendsBy : {T : Type 0} → Result T StoreFault → Option StoreFault → Type 0
-SpendsBy (Ok x) spent = spent ≡ None
-SpendsBy (Err Disk) spent = spent ≡ Some Broken
-SpendsBy (Err Broken) spent = ⊥
-SpendsBy (Err NoMemory) spent = spent ≡ Some NoMemory
-
--- What appending a record did, with which the log says the server, where it said the one before: whenever a crash comes it says the one or the
--- other, and once it is done the disks hold the server's log.
-pub record LogsStep {E : Type 0} (before after : ServerState) (disk spare : Option DiskLife) (result : Result (Unit {0}) E) (log : KeptLogState) (disk' spare' : Option DiskLife) : Type 0 where
-  pub since : LeavesBoth disk spare disk' spare' (SaysEither before after)
-  pub kept : (x : Unit {0}) → result ≡ Ok x → IsLogOf after log disk' spare'

@@ -30,17 +30,17 @@ pub record Starts (says : Result ServerState ℕ) (k : KeptState) : Type 0 where
   pub is_new : k.spent ≡ None
 
 -- what a log was opened as, of which this is said
-abbrev pub OpensAs : Result ServerState ℕ → Result KeptState OpenCause → Type 0
-OpensAs says (Ok k) = Starts says k
-OpensAs says (Err (BadLog place)) = says ≡ Err place
-OpensAs says (Err BootsSpent) = (said : ServerState) × (says ≡ Ok said) × (said.clock.boot ≡ max_boot)
-OpensAs says (Err Disk) = ⊤
-OpensAs says (Err NoMemory) = ⊤
+abbrev pub OpensSaid : Result ServerState ℕ → Result KeptState OpenCause → Type 0
+OpensSaid says (Ok k) = Starts says k
+OpensSaid says (Err (BadLog place)) = says ≡ Err place
+OpensSaid says (Err BootsSpent) = (said : ServerState) × (says ≡ Ok said) × (said.clock.boot ≡ max_boot)
+OpensSaid says (Err Disk) = ⊤
+OpensSaid says (Err NoMemory) = ⊤
 
 abbrev pub OpensLog : ℕ → Option DiskLife → Option DiskLife → Result KeptState OpenCause → Type 0
 OpensLog number None spare result = ⊤
 OpensLog number (Some disk) None result = ⊤
-OpensLog number (Some disk) (Some spare) result = OpensAs (log_says number disk.now.seen spare.now.seen) result
+OpensLog number (Some disk) (Some spare) result = OpensSaid (log_says number disk.now.seen spare.now.seen) result
 
 -- ---- what crashes leave
 
@@ -58,9 +58,10 @@ pub record LeavesOpening (number : ℕ) (disk spare : DiskLife) (disk' spare' : 
   pub behind : AreSameDisks mid mid_spare disk' spare'
       ⊎ (IsSyncedFrom disk mid × IsSyncedFrom spare mid_spare × LeavesBoth mid mid_spare disk' spare' (SaysBooting number (log_says number disk.now.seen spare.now.seen)))
 
+-- the same of disks that may tell nothing, and tell nothing later
 abbrev pub LeavesOpened : ℕ → Option DiskLife → Option DiskLife → Option DiskLife → Option DiskLife → Type 0
-LeavesOpened number None spare disk' spare' = ⊤
-LeavesOpened number (Some disk) None disk' spare' = ⊤
+LeavesOpened number None spare disk' spare' = disk' ≡ None
+LeavesOpened number (Some disk) None disk' spare' = spare' ≡ None
 LeavesOpened number (Some disk) (Some spare) disk' spare' = LeavesOpening number disk spare disk' spare'
 
 -- A log that is refused stands as it was: nothing but a sync was done to its disks.

@@ -19,19 +19,19 @@ pub record HasSaid (number : ℕ) (says : TwinLog) (s : ServerState) : Type 0 wh
   pub numbered : s.number ≡ number
   pub lasts : durable s ≡ s
 
-abbrev pub ReadsAll : ℕ → TwinLog → Option DiskLife → Option DiskLife → Result ServerState OpenCause → KeptLogState → Type 0
-ReadsAll number says disk spare (Ok s) log = HasSaid number says s × StandsTwin log says disk spare
-ReadsAll number says disk spare (Err (BadLog place)) log = said_by number says ≡ Err place
-ReadsAll number says disk spare (Err BootsSpent) log = ⊥
-ReadsAll number says disk spare (Err Disk) log = ⊤
-ReadsAll number says disk spare (Err NoMemory) log = ⊤
+abbrev pub ReadsWhole : ℕ → TwinLog → Option DiskLife → Option DiskLife → Result ServerState OpenCause → KeptLogState → Type 0
+ReadsWhole number says disk spare (Ok s) log = HasSaid number says s × StandsTwin log says disk spare
+ReadsWhole number says disk spare (Err (BadLog place)) log = said_by number says ≡ Err place
+ReadsWhole number says disk spare (Err BootsSpent) log = ⊥
+ReadsWhole number says disk spare (Err Disk) log = ⊤
+ReadsWhole number says disk spare (Err NoMemory) log = ⊤
 
 -- of a log whose first body is the next, on disks that both tell
 abbrev pub ReadsLog : ℕ → KeptLogState → Option DiskLife → Option DiskLife → Result ServerState OpenCause → KeptLogState → Type 0
 ReadsLog number old None spare result new = ⊤
 ReadsLog number old (Some disk) None result new = ⊤
 ReadsLog number old (Some disk) (Some spare) result new =
-    (says : TwinLog) → StandsTwin old says (Some disk) (Some spare) → IsAtFirst says old → ReadsAll number says (Some disk) (Some spare) result new
+    (says : TwinLog) → StandsTwin old says (Some disk) (Some spare) → IsAtFirst says old → ReadsWhole number says (Some disk) (Some spare) result new
 
 -- ---- the next boot
 

@@ -1,12 +1,12 @@
 -- A renewal: the snapshot of a server in the other file takes the log's place.
-use Rattle.std.specs.Prelude.{⊤, ◌≡◌, ◌⊎◌, ℕ, ◌+◌, ◌*◌, ◌≤◌, true, List, Option, Some, None, Result, Ok, Err}
+use Rattle.std.specs.Prelude.{⊤, ◌≡◌, ◌⊎◌, ℕ, ◌+◌, ◌*◌, ◌≤◌, Bool, true, false, nat_lt, ◌&&◌, List, length, Option, Some, None, Result, Ok, Err}
 use Rattle.rpc_record.specs.declared.stream.Failed.{Failed}
 use Rattle.cluster_model.specs.Server.{ServerState}
 use Rattle.store_disk.specs.Disks.{DiskLife}
 use Rattle.twin_log.specs.Twins.{TwinLog, opposite}
-use Rattle.twin_log.specs.KeptLogs.{IsFileOf, IsPassed, KeptLogState, RenewsTwin, has_next, next_generation}
-use Rattle.twin_log.specs.LogCalls.{OnSide, renewed_place}
-use Rattle.ds_log.specs.Durable.{durable, played, unbooted}
+use Rattle.twin_log.specs.KeptLogs.{IsFileOf, IsPassed, KeptLogState, RenewsTwin, has_next, has_waiting, next_generation}
+use Rattle.twin_log.specs.LogCalls.{HasRenewed, OnSide, renewed_place, sealed_log, staged_log}
+use Rattle.ds_log.specs.Durable.{applied_bytes, durable, played, unbooted}
 use Rattle.ds_snapshot.specs.Snapshots.{AreBodiesOf, snapshot_of}
 use Rattle.ds_snapshot.specs.Sizes.{snapshot_size}
 use Rattle.ds_store.specs.Kept.{IsLogOf}
@@ -50,9 +50,40 @@ log_limit s = 16777216 + 2 * renewed_size s
 abbrev pub IsWithinLimit : ServerState → KeptLogState → Type 0
 IsWithinLimit s log = has_next log.generation ≡ true → log.size ≤ log_limit s
 
--- Where a call appended, the file is within its limit; the same of disks that may tell nothing.
-abbrev pub IsBounded : {T E : Type 0} → KeptLogState → Result T E → ServerState → KeptLogState → Option DiskLife → Option DiskLife → Type 0
-IsBounded old (Err e) s new disk spare = ⊤
-IsBounded old (Ok x) s new None spare = ⊤
-IsBounded old (Ok x) s new (Some disk) None = ⊤
-IsBounded old (Ok x) s new (Some disk) (Some spare) = (new ≡ old) ⊎ IsWithinLimit s new
+-- it is renewed where it is longer
+abbrev pub is_to_renew : ServerState → KeptLogState → Bool
+is_to_renew s log = has_next log.generation && nat_lt (log_limit s) log.size
+
+-- What settling makes of a log: where records wait they are part of it, and where it is longer than its limit then, and not else, it is renewed.
+abbrev pub RenewsIf : Bool → KeptLogState → KeptLogState → Type 0
+RenewsIf true old new = HasRenewed old new
+RenewsIf false old new = new ≡ sealed_log old
+
+abbrev pub SettlesIf : Bool → ServerState → KeptLogState → KeptLogState → Type 0
+SettlesIf true s old new = RenewsIf (is_to_renew s old) old new
+SettlesIf false s old new = new ≡ old
+
+abbrev pub SettlesLog : ServerState → KeptLogState → KeptLogState → Type 0
+SettlesLog s old new = SettlesIf (has_waiting old) s old new
+
+-- Where records waited, the file is within its limit then; the same of disks that may tell nothing.
+abbrev pub IsWithinThen : {E : Type 0} → ServerState → KeptLogState → Result (Unit {0}) E → KeptLogState → Option DiskLife → Option DiskLife → Type 0
+IsWithinThen s old (Err e) new disk spare = ⊤
+IsWithinThen s old (Ok x) new None spare = ⊤
+IsWithinThen s old (Ok x) new (Some disk) None = ⊤
+IsWithinThen s old (Ok x) new (Some disk) (Some spare) = has_waiting old ≡ true → IsWithinLimit s new
+
+-- A record was appended with which the log says the server behind a call, and the log is renewed where it is longer than its limit then; so it is
+-- within it.
+pub record AppendsCall (before after : ServerState) (old new : KeptLogState) : Type 0 where
+  pub body : List ℕ
+  pub made : applied_bytes (durable before) body ≡ Some (durable after)
+  pub settles : SettlesLog after (staged_log old (length body)) new
+  pub within : IsWithinLimit after new
+
+-- A call appended nothing, or its record; the same of disks that may tell nothing.
+abbrev pub IsLogBounded : {T E : Type 0} → ServerState → KeptLogState → Result T E → ServerState → KeptLogState → Option DiskLife → Option DiskLife → Type 0
+IsLogBounded before old (Err e) after new disk spare = ⊤
+IsLogBounded before old (Ok x) after new None spare = ⊤
+IsLogBounded before old (Ok x) after new (Some disk) None = ⊤
+IsLogBounded before old (Ok x) after new (Some disk) (Some spare) = (new ≡ old) ⊎ AppendsCall before after old new

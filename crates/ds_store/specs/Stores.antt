@@ -26,7 +26,7 @@ abbrev pub standing : {D : Type 0} → (D → Option DiskLife) → (D → ℕ) �
 standing told faults disk = record { told = told disk; faults = faults disk }
 
 -- A log was opened on two disks, or not, and this is how they stand then.
-pub record OpensDisks (number : ℕ) (disk spare : Standing) (result : Result KeptState OpenCause) (disk' spare' : Standing) : Type 0 where
+pub record OpensStoreDisks (number : ℕ) (disk spare : Standing) (result : Result KeptState OpenCause) (disk' spare' : Standing) : Type 0 where
   pub opened : OpensLog number disk.told spare.told result
   pub crash : LeavesOpened number disk.told spare.told disk'.told spare'.told
   pub refused : LeavesRefused disk.told spare.told result disk'.told spare'.told
@@ -35,8 +35,8 @@ pub record OpensDisks (number : ℕ) (disk spare : Standing) (result : Result Ke
 
 -- the same of disks that are in the store then, or given back
 abbrev pub OpensStore : {D : Type 0} → (D → Standing) → ℕ → Standing → Standing → Result StoreState (OpenFault D) → Type 0
-OpensStore stands number disk spare (Ok s) = OpensDisks number disk spare (Ok s.kept) (record { told = s.disk; faults = s.disk_faults }) (record { told = s.spare; faults = s.spare_faults })
-OpensStore stands number disk spare (Err (back.Disk disk' spare')) = OpensDisks number disk spare (Err cause.Disk) (stands disk') (stands spare')
-OpensStore stands number disk spare (Err (back.BadLog disk' spare' place)) = OpensDisks number disk spare (Err (cause.BadLog place)) (stands disk') (stands spare')
-OpensStore stands number disk spare (Err (back.BootsSpent disk' spare')) = OpensDisks number disk spare (Err cause.BootsSpent) (stands disk') (stands spare')
-OpensStore stands number disk spare (Err (back.NoMemory disk' spare')) = OpensDisks number disk spare (Err cause.NoMemory) (stands disk') (stands spare')
+OpensStore stands number disk spare (Ok s) = OpensStoreDisks number disk spare (Ok s.kept) (record { told = s.disk; faults = s.disk_faults }) (record { told = s.spare; faults = s.spare_faults })
+OpensStore stands number disk spare (Err (back.Disk disk' spare')) = OpensStoreDisks number disk spare (Err cause.Disk) (stands disk') (stands spare')
+OpensStore stands number disk spare (Err (back.BadLog disk' spare' place)) = OpensStoreDisks number disk spare (Err (cause.BadLog place)) (stands disk') (stands spare')
+OpensStore stands number disk spare (Err (back.BootsSpent disk' spare')) = OpensStoreDisks number disk spare (Err cause.BootsSpent) (stands disk') (stands spare')
+OpensStore stands number disk spare (Err (back.NoMemory disk' spare')) = OpensStoreDisks number disk spare (Err cause.NoMemory) (stands disk') (stands spare')

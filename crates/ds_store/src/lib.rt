@@ -5,6 +5,8 @@ mod fault;
 mod kept;
 mod opening;
 mod renewing;
+mod settling;
+mod staging;
 mod store;
 
 pub use fault::{OpenCause, StoreFault};

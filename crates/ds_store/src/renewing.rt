@@ -1,9 +1,9 @@
 //! Renewing the log of a data server.
 
-ghost use Rattle.std.specs.Prelude.{◌≡◌, ◌≢◌, ◌<◌, ◌≤◌, ◌-◌, ◌^◌, [], None, OnOk, IfSome};
+ghost use Rattle.std.specs.Prelude.{◌≡◌, ◌≢◌, ◌<◌, ◌-◌, ◌^◌, min, [], None, OnOk, IfSome};
 ghost use Rattle.twin_log.specs.Twins.{TwinLog};
 ghost use Rattle.twin_log.specs.KeptLogs.{RenewsTwin, StandsTwin};
-ghost use Rattle.twin_log.specs.LogCalls.{CountsTwins, TellAsBefore};
+ghost use Rattle.twin_log.specs.LogCalls.{CountsTwins, HasRenewed, TellAsBefore};
 ghost use Rattle.ds_log.specs.Steady.{IsSteady};
 ghost use Rattle.ds_store.specs.Renewals.{PutsAll, Renews, log_limit};
 
@@ -23,7 +23,7 @@ const REST: u64 = 18;
 /// How many bytes the server's log may have before it is renewed; the most that there is where they are more. Goes once over all
 /// files.
 pub(crate) fn log_limit(server: &DataServer) -> u64
-    ensures { result ≤ log_limit server.now }
+    ensures { result ≡ min (log_limit server.now) (2 ^ 64 - 1) }
 {
     snapshot_size(server)
         .saturating_add(REST)
@@ -73,6 +73,7 @@ pub(crate) fn renew<D: Disk>(
     requires booted { 0 < server.now.clock.boot }
     requires room { IfSome log.old.generation (λ generation. generation < 2 ^ 64 - 1) }
     ensures renews { (says : TwinLog) → StandsTwin log.old says (D.told disk.old) (D.told spare.old) → Renews server.now log.old (D.told disk.old) (D.told spare.old) result log.new (D.told disk.new) (D.told spare.new) }
+    ensures renewed { OnOk result (HasRenewed log.old log.new) }
     ensures tells { TellAsBefore (D.told disk.old) (D.told spare.old) (D.told disk.new) (D.told spare.new) }
     ensures faults { CountsTwins result (D.faults disk.old) (D.faults spare.old) (D.faults disk.new) (D.faults spare.new) }
 {

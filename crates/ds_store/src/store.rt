@@ -8,7 +8,7 @@ ghost use Rattle.ds_procedures.specs.Answer.{answer_of};
 ghost use Rattle.ds_procedures.specs.Steps.{step_of};
 ghost use Rattle.ds_files.specs.Receive.{outcome_of};
 ghost use Rattle.ds_files.specs.declared.logging.Logging.TheVariants.{On};
-ghost use Rattle.ds_store.specs.Renewals.{IsBounded};
+ghost use Rattle.ds_store.specs.Renewals.{IsLogBounded};
 ghost use Rattle.ds_store.specs.Kept.{Posts, StandsOnDisks, StepsSafely, plain_fault};
 ghost use Rattle.ds_store.specs.Stores.{OpensStore, standing};
 
@@ -76,7 +76,7 @@ fn apply_to<D: Disk>(
     ensures answer { IfOk result (λ answer. answer ≡ answer_of (step_of parts.old.server.server (plain_call call.now) (plain_credential cred.now))) }
     ensures steps { StepsSafely parts.old.server.spent (step_of parts.old.server.server (plain_call call.now) (plain_credential cred.now)).server parts.old.server (D.told parts.old.disk) (D.told parts.old.spare) result parts.new.server (D.told parts.new.disk) (D.told parts.new.spare) }
     ensures stands { StandsOnDisks parts.new.server (D.told parts.new.disk) (D.told parts.new.spare) }
-    ensures bounded { IsBounded parts.old.server.log result parts.new.server.server parts.new.server.log (D.told parts.new.disk) (D.told parts.new.spare) }
+    ensures bounded { IsLogBounded parts.old.server.server parts.old.server.log result parts.new.server.server parts.new.server.log (D.told parts.new.disk) (D.told parts.new.spare) }
     ensures faults { CountsTwins (plain_fault result) (D.faults parts.old.disk) (D.faults parts.old.spare) (D.faults parts.new.disk) (D.faults parts.new.spare) }
 {
     parts
@@ -95,7 +95,7 @@ fn take_record<D: Disk>(
     ensures posts { Posts On (outcome_of parts.old.server.server message.now) from result out.old out.new }
     ensures steps { StepsSafely parts.old.server.spent (outcome_of parts.old.server.server message.now).server parts.old.server (D.told parts.old.disk) (D.told parts.old.spare) result parts.new.server (D.told parts.new.disk) (D.told parts.new.spare) }
     ensures stands { StandsOnDisks parts.new.server (D.told parts.new.disk) (D.told parts.new.spare) }
-    ensures bounded { IsBounded parts.old.server.log result parts.new.server.server parts.new.server.log (D.told parts.new.disk) (D.told parts.new.spare) }
+    ensures bounded { IsLogBounded parts.old.server.server parts.old.server.log result parts.new.server.server parts.new.server.log (D.told parts.new.disk) (D.told parts.new.spare) }
     ensures faults { CountsTwins (plain_fault result) (D.faults parts.old.disk) (D.faults parts.old.spare) (D.faults parts.new.disk) (D.faults parts.new.spare) }
 {
     parts
@@ -155,7 +155,7 @@ impl<D: Disk + Drop> Store<D> {
     pub fn apply(&mut self, call: &Call3<'_>, cred: &AuthSys<'_>) -> Result<Answer3, StoreFault>
         ensures answer { IfOk result (λ answer. answer ≡ answer_of (step_of self.old.kept.server (plain_call call.now) (plain_credential cred.now))) }
         ensures steps { StepsSafely self.old.kept.spent (step_of self.old.kept.server (plain_call call.now) (plain_credential cred.now)).server self.old.kept self.old.disk self.old.spare result self.new.kept self.new.disk self.new.spare }
-        ensures bounded { IsBounded self.old.kept.log result self.new.kept.server self.new.kept.log self.new.disk self.new.spare }
+        ensures bounded { IsLogBounded self.old.kept.server self.old.kept.log result self.new.kept.server self.new.kept.log self.new.disk self.new.spare }
         ensures faults { CountsTwins (plain_fault result) self.old.disk_faults self.old.spare_faults self.new.disk_faults self.new.spare_faults }
     {
         apply_to(&mut self.parts, call, cred)
@@ -170,7 +170,7 @@ impl<D: Disk + Drop> Store<D> {
     ) -> Result<(), StoreFault>
         ensures posts { Posts On (outcome_of self.old.kept.server message.now) from result out.old out.new }
         ensures steps { StepsSafely self.old.kept.spent (outcome_of self.old.kept.server message.now).server self.old.kept self.old.disk self.old.spare result self.new.kept self.new.disk self.new.spare }
-        ensures bounded { IsBounded self.old.kept.log result self.new.kept.server self.new.kept.log self.new.disk self.new.spare }
+        ensures bounded { IsLogBounded self.old.kept.server self.old.kept.log result self.new.kept.server self.new.kept.log self.new.disk self.new.spare }
         ensures faults { CountsTwins (plain_fault result) self.old.disk_faults self.old.spare_faults self.new.disk_faults self.new.spare_faults }
     {
         take_record(&mut self.parts, from, message, out)

@@ -28,12 +28,13 @@ pub record NodeStep (S : Type 0) : Type 0 where
   pub sends : SentRecords
   pub text : List ℕ
 
--- What an event does to a node; what the node came to, once it has ended by itself; and whether it serves others, so that it ends well
--- where nothing more comes to it.
+-- What an event does to a node; what the node came to, once it has ended by itself; whether it serves others, so that it ends well where nothing
+-- more comes to it; and how many more arrivals it takes together with one, before it sends for any of them.
 pub record NodeRule (S : Type 0) : Type 0 where
   pub step : S → NodeEvent → NodeStep S
   pub outcome : S → Option (Result (Unit {0}) FailCause)
   pub is_server : Bool
+  pub more_at_once : ℕ
 
 -- a node after these events, by its rule; the records that it sends over them, in order; and the bytes that it writes
 abbrev pub state_after : {S : Type 0} → NodeRule S → S → List NodeEvent → S

@@ -98,6 +98,10 @@ abbrev pub fault_of_sink : Failed → EventFault
 fault_of_sink failed.Fault = fault.Sink
 fault_of_sink failed.NoMemory = fault.NoMemory
 
+abbrev pub fault_of_disk : Failed → EventFault
+fault_of_disk failed.Fault = fault.Disk
+fault_of_disk failed.NoMemory = fault.NoMemory
+
 abbrev pub end_of_event : EventFault → NodeEnd
 end_of_event fault.Sink = ends.WriteFault
 end_of_event fault.Disk = ends.DiskFault
@@ -124,24 +128,28 @@ abbrev pub TookBeginning : Option (List ℕ) → List ℕ → Option (List ℕ) 
 TookBeginning None text new = new ≡ None
 TookBeginning (Some held) text new = (part : List ℕ) × IsBeginningOf part text × (new ≡ Some (held ++ part))
 
--- An event was taken, and not all done: it failed, nothing was sent for it and a beginning of its bytes was written; or, for want of
--- memory, fewer records were sent than the node sends for it.
-abbrev pub FailsIn : {S : Type 0} → NodeRule S → S → NodeEvent → Option SentRecords → Option (List ℕ) → EventFault → Option SentRecords → Option (List ℕ) → Type 0
-FailsIn rule s event sent held e sent' held' =
-    (TookBeginning held (rule.step s event).text held' × (sent' ≡ sent))
-    ⊎ ((e ≡ fault.NoMemory) × (held' ≡ behind held (rule.step s event).text)
-    × ((part : ℕ) × (part < length (rule.step s event).sends) × (sent' ≡ behind sent (take part (rule.step s event).sends))))
+-- Events were taken together, and not all done: one failed, or what is to be kept of them could not be, nothing was sent for any and a beginning of
+-- their bytes was written; or, for want of memory, fewer records were sent than the node sends for them.
+abbrev pub FailsIn : {S : Type 0} → NodeRule S → S → List NodeEvent → Option SentRecords → Option (List ℕ) → EventFault → Option SentRecords → Option (List ℕ) → Type 0
+FailsIn rule s events sent held e sent' held' =
+    (TookBeginning held (text_over rule s events) held' × (sent' ≡ sent))
+    ⊎ ((e ≡ fault.NoMemory) × (held' ≡ behind held (text_over rule s events))
+    × ((part : ℕ) × (part < length (sends_over rule s events)) × (sent' ≡ behind sent (take part (sends_over rule s events)))))
 
-pub record NodeBreaksOff {S : Type 0} (rule : NodeRule S) (s : S) (b : Beside) (end : NodeEnd) (b' : Beside) : Type 0 where
-  pub event : NodeEvent
-  pub came : TakesFront b.coming (event.arrival ∷ []) b'.coming
-  pub moment : GivesMoments b.moments b.moment (event.moment ∷ []) b'.moments b'.moment
-  pub live : is_closed event.arrival ≡ false
+pub record NodeBreaksOff {S : Type 0} (rule : NodeRule S) (left : ℕ) (s : S) (b : Beside) (end : NodeEnd) (b' : Beside) : Type 0 where
+  pub events : List NodeEvent
+  pub some : 0 < length events
+  pub few : length events ≤ 1 + rule.more_at_once
+  pub within : length events ≤ left
+  pub came : TakesFront b.coming (map (λ (e : NodeEvent). e.arrival) events) b'.coming
+  pub moments : GivesMoments b.moments b.moment (map (λ (e : NodeEvent). e.moment) events) b'.moments b'.moment
+  pub live : AreOpen events
+  pub going : HasNotEndedBefore rule s events
   pub error : EventFault
-  pub fails : FailsIn rule s event b.sent b.held error b'.sent b'.held
+  pub fails : FailsIn rule s events b.sent b.held error b'.sent b'.held
   pub end_is : end ≡ end_of_event error
 
--- It had ended by itself; nothing more came to it; asking the link for more failed; or an event was not all done.
+-- It had ended by itself; nothing more came to it; asking the link for more failed; or events were not all done.
 abbrev pub Stops : {S : Type 0} → NodeRule S → ℕ → S → Beside → NodeEnd → S → Beside → Type 0
 Stops rule left s b end s' b' =
     ((r : Result (Unit {0}) FailCause) × (rule.outcome s ≡ Some r) × (end ≡ end_of_outcome r) × IsUnchanged s b s' b')
@@ -149,37 +157,37 @@ Stops rule left s b end s' b' =
     × (((end ≡ last_end rule.is_server) × NoMoreComes left s b s' b')
     ⊎ ((0 < left)
     × (((e : Failed) × (end ≡ end_of_link e) × IsUnchanged s b s' b')
-    ⊎ NodeBreaksOff rule s b end b'))))
+    ⊎ NodeBreaksOff rule left s b end b'))))
 
 -- ---- what serving did
 
--- the event at which it broke off, where it did
-abbrev pub broken_at : {S : Type 0} {rule : NodeRule S} {left : ℕ} {s : S} {b : Beside} {end : NodeEnd} {s' : S} {b' : Beside} → Stops rule left s b end s' b' → Option NodeEvent
-broken_at (inl ended) = None
-broken_at (inr (goes, inl none)) = None
-broken_at (inr (goes, inr (more, inl failed))) = None
-broken_at (inr (goes, inr (more, inr breaks))) = Some breaks.event
+-- the events at which it broke off, where it did
+abbrev pub broken_at : {S : Type 0} {rule : NodeRule S} {left : ℕ} {s : S} {b : Beside} {end : NodeEnd} {s' : S} {b' : Beside} → Stops rule left s b end s' b' → List NodeEvent
+broken_at (inl ended) = []
+broken_at (inr (goes, inl none)) = []
+broken_at (inr (goes, inr (more, inl failed))) = []
+broken_at (inr (goes, inr (more, inr breaks))) = breaks.events
 
--- Events were taken and done, fewer than there were turns or as many; and then it stopped. `leaves` holds of the state that it had come to, the
--- event at which it broke off, where it did, and the disks then.
-pub record NodeServesOn {S : Type 0} (leaves : S → Option NodeEvent → Option DiskLife → Option DiskLife → Type 0) (rule : NodeRule S) (s : S) (turns : ℕ) (b : Beside) (end : NodeEnd) (s' : S) (b' : Beside) (disk spare : Option DiskLife) : Type 0 where
+-- Events were taken and done, fewer than there were turns or as many; and then it stopped. `leaves` holds of the state that it had come to, the one
+-- behind the events at which it broke off, where it did, and the disks then.
+pub record NodeServesOn {S : Type 0} (leaves : S → S → Option DiskLife → Option DiskLife → Type 0) (rule : NodeRule S) (s : S) (turns : ℕ) (b : Beside) (end : NodeEnd) (s' : S) (b' : Beside) (disk spare : Option DiskLife) : Type 0 where
   pub mid : S
   pub beside_mid : Beside
   pub served : Served rule s b mid beside_mid
   pub left : ℕ
   pub turns_are : length served.taken + left ≡ turns
   pub stops : Stops rule left mid beside_mid end s' b'
-  pub stands : leaves mid (broken_at stops) disk spare
+  pub stands : leaves mid (state_after rule mid (broken_at stops)) disk spare
 
 -- Before all events these records were sent; or, for want of memory, fewer of them, and no event was taken.
-abbrev pub NodeRunsOn : {S : Type 0} → (S → Option NodeEvent → Option DiskLife → Option DiskLife → Type 0) → NodeRule S → SentRecords → S → ℕ → Beside → NodeEnd → S → Beside → Option DiskLife → Option DiskLife → Type 0
+abbrev pub NodeRunsOn : {S : Type 0} → (S → S → Option DiskLife → Option DiskLife → Type 0) → NodeRule S → SentRecords → S → ℕ → Beside → NodeEnd → S → Beside → Option DiskLife → Option DiskLife → Type 0
 NodeRunsOn leaves rule first s turns b end s' b' disk spare =
     NodeServesOn leaves rule s turns (with_sent b first) end s' b' disk spare
-    ⊎ ((end ≡ ends.NoMemory) × (s' ≡ s) × ((part : ℕ) × (part < length first) × (b' ≡ with_sent b (take part first))) × leaves s None disk spare)
+    ⊎ ((end ≡ ends.NoMemory) × (s' ≡ s) × ((part : ℕ) × (part < length first) × (b' ≡ with_sent b (take part first))) × leaves s s disk spare)
 
 -- the same of a node that keeps nothing on disks
-abbrev pub LeavesNothing : {S : Type 0} → S → Option NodeEvent → Option DiskLife → Option DiskLife → Type 0
-LeavesNothing s event disk spare = ⊤
+abbrev pub LeavesNothing : {S : Type 0} → S → S → Option DiskLife → Option DiskLife → Type 0
+LeavesNothing s broken disk spare = ⊤
 
 abbrev pub NodeServes : {S : Type 0} → NodeRule S → S → ℕ → Beside → NodeEnd → S → Beside → Type 0
 NodeServes rule s turns b end s' b' = NodeServesOn LeavesNothing rule s turns b end s' b' None None
@@ -222,24 +230,64 @@ abbrev pub SendsAll : Option SentRecords → SentRecords → Result (Unit {0}) N
 SendsAll sent records (Ok x) sent' = sent' ≡ behind sent records
 SendsAll sent records (Err e) sent' = (n : ℕ) × (n < length records) × (sent' ≡ behind sent (take n records))
 
--- what taking an event did: the node, what is sent and what is written are by its rule; or it failed
-abbrev pub NodeDoesEvent : {S : Type 0} → NodeRule S → S → NodeEvent → Option SentRecords → Option (List ℕ) → Result (Unit {0}) EventFault → S → Option SentRecords → Option (List ℕ) → Type 0
-NodeDoesEvent rule s event sent held (Ok x) s' sent' held' = (s' ≡ (rule.step s event).state) × (sent' ≡ behind sent (rule.step s event).sends) × (held' ≡ behind held (rule.step s event).text)
-NodeDoesEvent rule s event sent held (Err e) s' sent' held' = FailsIn rule s event sent held e sent' held'
+-- So many events were taken and done, of which none was answered yet: what is to be sent for them stands behind what was to be.
+pub record TakesAll {S : Type 0} (rule : NodeRule S) (s : S) (b : Beside) (sends : SentRecords) (n : ℕ) (s' : S) (b' : Beside) (sends' : SentRecords) : Type 0 where
+  pub taken : List NodeEvent
+  pub count : length taken ≡ n
+  pub came : TakesFront b.coming (map (λ (e : NodeEvent). e.arrival) taken) b'.coming
+  pub moments : GivesMoments b.moments b.moment (map (λ (e : NodeEvent). e.moment) taken) b'.moments b'.moment
+  pub live : AreOpen taken
+  pub going : HasNotEndedBefore rule s taken
+  pub state : s' ≡ state_after rule s taken
+  pub sends : sends' ≡ sends ++ sends_over rule s taken
+  pub sent : b'.sent ≡ b.sent
+  pub text : b'.held ≡ behind b.held (text_over rule s taken)
+
+-- At most so many were taken, and the last of them failed.
+pub record TakesInPart {S : Type 0} (rule : NodeRule S) (s : S) (b : Beside) (most : ℕ) (b' : Beside) : Type 0 where
+  pub taken : List NodeEvent
+  pub some : 0 < length taken
+  pub few : length taken ≤ most
+  pub came : TakesFront b.coming (map (λ (e : NodeEvent). e.arrival) taken) b'.coming
+  pub moments : GivesMoments b.moments b.moment (map (λ (e : NodeEvent). e.moment) taken) b'.moments b'.moment
+  pub live : AreOpen taken
+  pub going : HasNotEndedBefore rule s taken
+  pub sent : b'.sent ≡ b.sent
+  pub text : TookBeginning b.held (text_over rule s taken) b'.held
+
+abbrev pub TakesMore : {S : Type 0} → NodeRule S → S → Beside → SentRecords → ℕ → Result ℕ EventFault → S → Beside → SentRecords → Type 0
+TakesMore rule s b sends most (Ok n) s' b' sends' = TakesAll rule s b sends n s' b' sends' × (n ≤ most)
+TakesMore rule s b sends most (Err e) s' b' sends' = TakesInPart rule s b most b'
+
+-- What a node did that took an event, and more with it: the node, what is sent and what is written are by its rule; or it failed, and `Left` holds of
+-- the state behind them.
+pub record DoesTogether {S : Type 0} (rule : NodeRule S) (Left : S → Type 0) (s : S) (first : NodeEvent) (more : ℕ) (b : Beside) (result : Result ℕ EventFault) (s' : S) (b' : Beside) : Type 0 where
+  pub taken : List NodeEvent
+  pub few : length taken ≤ more
+  pub came : TakesFront b.coming (map (λ (e : NodeEvent). e.arrival) taken) b'.coming
+  pub moments : GivesMoments b.moments b.moment (map (λ (e : NodeEvent). e.moment) taken) b'.moments b'.moment
+  pub live : AreOpen taken
+  pub going : HasNotEndedBefore rule (rule.step s first).state taken
+  pub done : (n : ℕ) → result ≡ Ok n → (n ≡ 1 + length taken) × (s' ≡ state_after rule s (first ∷ taken)) × (b'.sent ≡ behind b.sent (sends_over rule s (first ∷ taken))) × (b'.held ≡ behind b.held (text_over rule s (first ∷ taken)))
+  pub broken : (e : EventFault) → result ≡ Err e → FailsIn rule s (first ∷ taken) b.sent b.held e b'.sent b'.held
+  pub left : (e : EventFault) → result ≡ Err e → Left (state_after rule s (first ∷ taken))
+
+-- the settled state is kept on the disks, and what is to be kept since waits; or, where it failed, a crash leaves that state, whatever it broke off at
+abbrev pub KeepsOr : {S N T E : Type 0} → (S → N → Option DiskLife → Option DiskLife → Type 0) → (S → S → Option DiskLife → Option DiskLife → Type 0) → S → N → Result T E → Option DiskLife → Option DiskLife → Type 0
+KeepsOr keeps leaves settled node (Ok x) disk spare = keeps settled node disk spare
+KeepsOr keeps leaves settled node (Err e) disk spare = (broken : _) → leaves settled broken disk spare
 
 -- what a node wrote for an event: its bytes, or at an error a beginning of them
 abbrev pub WritesFor : {T E : Type 0} → Option (List ℕ) → List ℕ → Result T E → Option (List ℕ) → Type 0
 WritesFor held text (Ok x) new = new ≡ behind held text
 WritesFor held text (Err e) new = TookBeginning held text new
 
--- What one turn of serving did: it ended the serving so; or whatever the serving does from there on, it has done from before the turn with
--- one turn more.
-abbrev pub TakesTurn : {S : Type 0} → (S → Option NodeEvent → Option DiskLife → Option DiskLife → Type 0) → NodeRule S → S → Beside → Option NodeEnd → S → Beside → Option DiskLife → Option DiskLife → Type 0
-TakesTurn leaves rule s b (Some end) s' b' disk spare = (turns : ℕ) → NodeServesOn leaves rule s (turns + 1) b end s' b' disk spare
-TakesTurn {S = S} leaves rule s b None s' b' disk spare = (turns : ℕ) (end : NodeEnd) (s'' : S) (b'' : Beside) (last last_spare : Option DiskLife)
-    → NodeServesOn leaves rule s' turns b' end s'' b'' last last_spare → NodeServesOn leaves rule s (turns + 1) b end s'' b'' last last_spare
+-- What a turn of serving did, of which so many arrivals may be taken at most: so many were, and done; or it ended the serving.
+abbrev pub TakesTurn : {S : Type 0} → (S → S → Option DiskLife → Option DiskLife → Type 0) → NodeRule S → S → ℕ → Beside → Result ℕ NodeEnd → S → Beside → Option DiskLife → Option DiskLife → Type 0
+TakesTurn leaves rule s left b (Ok n) s' b' disk spare = (served : Served rule s b s' b') × (length served.taken ≡ n) × (0 < n) × (n ≤ left)
+TakesTurn leaves rule s left b (Err end) s' b' disk spare = NodeServesOn leaves rule s left b end s' b' disk spare
 
 -- the counts of faults after a turn
-abbrev pub turn_faults : (NodeEnd → ℕ → ℕ) → Option NodeEnd → ℕ → ℕ
-turn_faults faults None n = n
-turn_faults faults (Some end) n = faults end n
+abbrev pub turn_faults : (NodeEnd → ℕ → ℕ) → Result ℕ NodeEnd → ℕ → ℕ
+turn_faults faults (Ok taken) n = n
+turn_faults faults (Err end) n = faults end n

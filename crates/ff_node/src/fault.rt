@@ -1,7 +1,7 @@
 //! What a node meets in an event.
 
 ghost use Rattle.std.specs.Prelude.{◌≡◌};
-ghost use Rattle.ff_node.specs.Serve.{fault_of_sink};
+ghost use Rattle.ff_node.specs.Serve.{fault_of_disk, fault_of_sink};
 
 use rpc_record::Failed;
 use thiserror::Error;
@@ -27,6 +27,16 @@ impl EventFault {
     {
         match failed {
             Failed::Fault => EventFault::Sink,
+            Failed::NoMemory => EventFault::NoMemory,
+        }
+    }
+
+    /// How a failed call of a disk ends an event.
+    pub fn of_disk(failed: Failed) -> EventFault
+        ensures { result ≡ fault_of_disk failed }
+    {
+        match failed {
+            Failed::Fault => EventFault::Disk,
             Failed::NoMemory => EventFault::NoMemory,
         }
     }

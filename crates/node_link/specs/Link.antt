@@ -1,5 +1,5 @@
 -- What a link gives and takes: arrivals, and records that are sent.
-use Rattle.std.specs.Prelude.{◌≡◌, ℕ, ◌-◌, ◌==◌, if◌then◌else◌, slice_get, List, [], ◌∷◌, ◌++◌, Option, Some, None, Result, Ok, Err}
+use Rattle.std.specs.Prelude.{◌≡◌, ℕ, ◌-◌, ◌==◌, Bool, true, false, if◌then◌else◌, slice_get, List, [], ◌∷◌, ◌++◌, Option, Some, None, Result, Ok, Err}
 use Rattle.ff_xdr.specs.declared.error.NoMemory.{NoMemory}
 use Rattle.rpc_record.specs.declared.stream.Failed.{Failed}
 use Rattle.cluster_model.specs.declared.ids.NodeId.{NodeId}
@@ -9,7 +9,7 @@ use Rattle.node_link.specs.declared.link.Opening.{Opening}
 use Rattle.node_link.specs.declared.link.Role.{Role}
 use Rattle.node_link.specs.declared.link.Role.TheVariants.{Mds, Server, Client}
 use Rattle.node_link.specs.declared.link.Arrival.{Arrival}
-use Rattle.node_link.specs.declared.link.Arrival.TheVariants.{Closed}
+use Rattle.node_link.specs.declared.link.Arrival.TheVariants.{Record, TimedOut, Quiet, Closed}
 
 -- What asking for the next arrival did, where a link tells those still to come: the first of them came; where there is none
 -- it is closed; a failing call takes none.
@@ -18,6 +18,19 @@ Gives None result new = new ≡ None
 Gives (Some []) (Ok arrival) new = (arrival ≡ Closed) × (new ≡ Some [])
 Gives (Some (first ∷ rest)) (Ok arrival) new = (arrival ≡ first) × (new ≡ Some rest)
 Gives (Some coming) (Err e) new = new ≡ Some coming
+
+abbrev pub is_record : Arrival → Bool
+is_record (Record from bytes) = true
+is_record (TimedOut node xid) = false
+is_record Quiet = false
+is_record Closed = false
+
+-- What asking for a record that has come already did: the first of those to come was one, and came; or none is taken.
+abbrev pub GivesReady : Option (List Arrival) → Option (NodeId × List ℕ) → Option (List Arrival) → Type 0
+GivesReady None result new = new ≡ None
+GivesReady (Some []) (Some record) new = ⊥
+GivesReady (Some (first ∷ rest)) (Some (from, bytes)) new = (first ≡ Record from bytes) × (new ≡ Some rest)
+GivesReady (Some coming) None new = new ≡ Some coming
 
 -- What sending did, where a link tells what was handed to it: the record stands behind the others; want of memory has done
 -- nothing.
@@ -50,7 +63,8 @@ pub record SureLinkState : Type 0 where
   pub coming : List Arrival
   pub sent : List (NodeId × List ℕ)
 
--- the same, with the numbers of the calls that fail, and how many calls were made and have failed
+-- the same, with the numbers of the calls that fail, how many calls were made and have failed, and whether all of what is still to come is there at
+-- once
 pub record MemoryLinkState : Type 0 where
   pub opened : Option Opening
   pub coming : List Arrival
@@ -58,3 +72,4 @@ pub record MemoryLinkState : Type 0 where
   pub failing : List ℕ
   pub calls : ℕ
   pub faults : ℕ
+  pub is_at_once : Bool

@@ -95,6 +95,21 @@ GivesArrival old result new =
     ((old.server ≡ None) × (result ≡ Err failed.Fault) × (new.server ≡ None) × KeepsCalls old new)
     ⊎ ((s : ServingState) × (s' : ServingState) × (old.server ≡ Some s) × (new.server ≡ Some s') × Arrives old s result s' new)
 
+-- ---- what has come already
+
+-- What asking for a record did that came already, where it is open: one came, of the node whose connection brought it; or none did, or memory was
+-- wanted for it.
+abbrev pub IsReady : LinkState → ServingState → Option (NodeId × List ℕ) → ServingState → LinkState → Type 0
+IsReady old s (Some (from, bytes)) s' new =
+    ((number : ℕ) × GivesRecord 0 s (Ok (Some (number, bytes))) s' × IsFrom number old.callees from)
+    × DoesMove (RecordComesIn s'.time from (replied_number bytes)) old.calls new.calls × (new.silence ≡ behind_arrival s'.time old.silence)
+IsReady old s None s' new = (GivesRecord 0 s (Ok None) s' ⊎ ((e : Failed) × GivesRecord 0 s (Err e) s')) × KeepsCalls old new
+
+abbrev pub GivesOneReady : LinkState → Option (NodeId × List ℕ) → LinkState → Type 0
+GivesOneReady old result new =
+    ((old.server ≡ None) × (result ≡ None) × (new ≡ old))
+    ⊎ ((s : ServingState) × (s' : ServingState) × (old.server ≡ Some s) × (new.server ≡ Some s') × IsReady old s result s' new)
+
 -- ---- what goes, by connections
 
 -- where a node listens

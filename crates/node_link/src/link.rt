@@ -5,7 +5,7 @@ ghost use Rattle.rpc_record.specs.Stream.{counted};
 ghost use Rattle.cluster_model.specs.declared.ids.NodeId.{NodeId};
 ghost use Rattle.node_link.specs.declared.link.Arrival.{Arrival};
 ghost use Rattle.node_link.specs.declared.link.Opening.{Opening};
-ghost use Rattle.node_link.specs.Link.{Gives, OpensLink, HandsOver, address_numbered, opening_of, own_address};
+ghost use Rattle.node_link.specs.Link.{Gives, GivesReady, OpensLink, HandsOver, address_numbered, opening_of, own_address};
 
 use cluster_model::NodeId;
 use device_addr::NetAddr;
@@ -123,6 +123,14 @@ pub trait Link {
         ensures opened { opened self.new ≡ opened self.old }
         ensures sent { sent self.new ≡ sent self.old }
         ensures faults { faults self.new ≡ counted result (faults self.old) };
+
+    /// A record that has come already, so that none is waited for; where there is none nothing is taken from what is to
+    /// come.
+    fn ready(&mut self) -> Option<(NodeId, Data)>
+        ensures told { GivesReady (coming self.old) result (coming self.new) }
+        ensures opened { opened self.new ≡ opened self.old }
+        ensures sent { sent self.new ≡ sent self.old }
+        ensures faults { faults self.new ≡ faults self.old };
 
     /// Sends a record to a node. A record that cannot be sent is lost, which is no fault. At an error
     /// nothing was sent.

@@ -1,8 +1,8 @@
 //! A link over memory, in which chosen calls fail.
 
-ghost use Rattle.std.specs.Prelude.{⊤, ◌≡◌, ◌↔◌, List, [], None, Some, Ok, Err, IsTrue, IsOk, if◌then◌else◌};
+ghost use Rattle.std.specs.Prelude.{⊤, ◌≡◌, ◌↔◌, List, [], None, Some, Ok, Err, false, true, IsTrue, IsOk, if◌then◌else◌};
 ghost use Rattle.rpc_record.specs.Stream.{counted, one_more, fails_next};
-ghost use Rattle.node_link.specs.Link.{OpensLink, Gives, HandsOver};
+ghost use Rattle.node_link.specs.Link.{OpensLink, Gives, GivesReady, HandsOver};
 
 use crate::link::{Arrival, Link, Role};
 use crate::sure_link::SureLink;
@@ -51,6 +51,7 @@ impl Schedule {
 pub struct MemoryLink {
     link: SureLink,
     schedule: Schedule,
+    is_at_once: bool,
 }
 
 impl Model for MemoryLink {
@@ -65,14 +66,16 @@ impl Model for MemoryLink {
       failing = memory.schedule.failing.items;
       calls = memory.schedule.calls;
       faults = memory.schedule.faults;
+      is_at_once = memory.is_at_once;
     } };
 }
 
 impl MemoryLink {
     /// A link over which these come. It takes its memory from `alloc`. `failing` are the numbers, from
-    /// 1, of the calls of `open` and `next` together that answer `Failed::Fault` and do nothing.
+    /// 1, of the calls of `open` and `next` together that answer `Failed::Fault` and do nothing. Each arrival is waited
+    /// for.
     pub fn new(alloc: Global, arrivals: Vec<Arrival>, failing: Vec<u64>) -> MemoryLink
-        ensures { result ≡ record { opened = None; coming = arrivals.items; sent = []; failing = failing.items; calls = 0; faults = 0 } }
+        ensures { result ≡ record { opened = None; coming = arrivals.items; sent = []; failing = failing.items; calls = 0; faults = 0; is_at_once = false } }
     {
         MemoryLink {
             link: SureLink::new(alloc, arrivals),
@@ -81,6 +84,18 @@ impl MemoryLink {
                 calls: 0,
                 faults: 0,
             },
+            is_at_once: false,
+        }
+    }
+
+    /// The same, with all records that are still to come there already: none is waited for.
+    pub fn at_once(self) -> MemoryLink
+        ensures { result ≡ record self { is_at_once = true } }
+    {
+        MemoryLink {
+            link: self.link,
+            schedule: self.schedule,
+            is_at_once: true,
         }
     }
 
@@ -133,9 +148,27 @@ impl Link for MemoryLink {
         ensures fails { IsTrue (fails_next self.old.failing self.old.calls) ↔ (result ≡ Err Failed.Fault) }
         ensures failing { self.new.failing ≡ self.old.failing }
         ensures calls { self.new.calls ≡ one_more self.old.calls }
+        ensures at_once { self.new.is_at_once ≡ self.old.is_at_once }
     {
         self.schedule.begin_call()?;
         self.link.next()
+    }
+
+    /// Fails never, and counts as no call.
+    fn ready(&mut self) -> Option<(NodeId, Data)>
+        ensures told { GivesReady (Some self.old.coming) result (Some self.new.coming) }
+        ensures opened { self.new.opened ≡ self.old.opened }
+        ensures sent { Some self.new.sent ≡ Some self.old.sent }
+        ensures faults { self.new.faults ≡ self.old.faults }
+        ensures waits { self.old.is_at_once ≡ false → result ≡ None }
+        ensures failing { self.new.failing ≡ self.old.failing }
+        ensures calls { self.new.calls ≡ self.old.calls }
+        ensures at_once { self.new.is_at_once ≡ self.old.is_at_once }
+    {
+        if !self.is_at_once {
+            return None;
+        }
+        self.link.take_record()
     }
 
     fn send(&mut self, to: NodeId, message: Data) -> Result<(), NoMemory>

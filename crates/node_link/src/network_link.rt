@@ -8,7 +8,7 @@ ghost use Rattle.node_link.specs.Callees.{AreSame, callee_in};
 ghost use Rattle.waiting_calls.specs.LinkCalls.{call_over};
 ghost use Rattle.waiting_calls.specs.LinkMoves.{RecordComesIn, DoesMove, CallIsGivenUp};
 ghost use Rattle.node_link.specs.Silence.{is_silence_over, behind_pause, behind_timeout};
-ghost use Rattle.node_link.specs.NodeLinks.{EndsWait, ExcusesFrom, FinishesLink, GivesArrival, GivesUp, CallGoesOutIf, HasGivenIn, LinkState, OpensNetwork, ReachesOr, SendsMadeOr, SendsTo, wait_end};
+ghost use Rattle.node_link.specs.NodeLinks.{EndsWait, ExcusesFrom, FinishesLink, GivesArrival, GivesOneReady, GivesUp, CallGoesOutIf, HasGivenIn, LinkState, OpensNetwork, ReachesOr, SendsMadeOr, SendsTo, wait_end};
 ghost use Rattle.node_link.specs.Link.{OpensLink};
 
 use crate::callees::Callees;
@@ -261,6 +261,26 @@ impl<H: Host + Drop> Link for NodeLink<H> {
             Err(Failed::Fault) => Err(self.fault()),
             Err(Failed::NoMemory) => Err(Failed::NoMemory),
         }
+    }
+
+    /// A record that came with what was read last.
+    fn ready(&mut self) -> Option<(NodeId, Data)>
+        ensures opened { self.new.opened ≡ self.old.opened }
+        ensures faults { self.new.faults ≡ self.old.faults }
+        ensures gives { GivesOneReady self.old result self.new }
+        ensures rest { self.new ≡ record self.old { server = self.new.server; calls = self.new.calls; silence = self.new.silence } }
+    {
+        let Some(server) = &mut self.server else {
+            return None;
+        };
+        let Ok(Some((number, bytes))) = server.next(0) else {
+            return None;
+        };
+        let now = server.time();
+        let from = self.callees.from(number);
+        self.calls.come_in(from, replied_number(bytes.bytes()), now);
+        self.silence = self.silence.behind_arrival(now);
+        Some((from, bytes))
     }
 
     /// Sends a record on the connection of a client, or on the one that is made to a server: where that is

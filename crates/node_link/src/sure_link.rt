@@ -2,7 +2,7 @@
 
 ghost use Rattle.std.specs.Prelude.{⊤, ◌≡◌, ◌≢◌, List, [], None, Some, Ok, Err, IsOk};
 ghost use Rattle.rpc_record.specs.Stream.{counted};
-ghost use Rattle.node_link.specs.Link.{OpensLink, Gives};
+ghost use Rattle.node_link.specs.Link.{OpensLink, Gives, GivesReady, is_record};
 
 use crate::link::{Arrival, Link, Opening, Role};
 use cluster_model::NodeId;
@@ -30,6 +30,18 @@ impl Model for SureLink {
     ghost view = { λ link. record { opened = link.opened; coming = link.arrivals.items; sent = link.sent.items } };
 }
 
+/// A record came.
+fn is_record(arrival: &Arrival) -> bool
+    ensures { result ≡ is_record arrival.now }
+{
+    match arrival {
+        Arrival::Record { .. } => true,
+        Arrival::TimedOut { .. } => false,
+        Arrival::Quiet => false,
+        Arrival::Closed => false,
+    }
+}
+
 impl SureLink {
     /// A link over which these come. It takes its memory from `alloc`.
     pub fn new(alloc: Global, arrivals: Vec<Arrival>) -> SureLink
@@ -47,6 +59,21 @@ impl SureLink {
         ensures { result.now ≡ self.now.sent }
     {
         &self.sent
+    }
+
+    /// Takes the first of those to come, where it is a record.
+    pub(crate) fn take_record(&mut self) -> Option<(NodeId, Data)>
+        ensures told { GivesReady (Some self.old.coming) result (Some self.new.coming) }
+        ensures opened { self.new.opened ≡ self.old.opened }
+        ensures sent { self.new.sent ≡ self.old.sent }
+    {
+        if !self.arrivals.front().is_some_and(is_record) {
+            return None;
+        }
+        match self.arrivals.pop_front() {
+            Some(Arrival::Record { from, bytes }) => Some((from, bytes)),
+            _ => None,
+        }
     }
 }
 
@@ -80,6 +107,17 @@ impl Link for SureLink {
         ensures sure { IsOk result }
     {
         Ok(self.arrivals.pop_front().unwrap_or(Arrival::Closed))
+    }
+
+    /// None: each is waited for.
+    fn ready(&mut self) -> Option<(NodeId, Data)>
+        ensures told { GivesReady (Some self.old.coming) result (Some self.new.coming) }
+        ensures opened { self.new.opened ≡ self.old.opened }
+        ensures sent { Some self.new.sent ≡ Some self.old.sent }
+        ensures faults { 0 ≡ 0 }
+        ensures none { result ≡ None }
+    {
+        None
     }
 
     fn send(&mut self, to: NodeId, message: Data) -> Result<(), NoMemory> {

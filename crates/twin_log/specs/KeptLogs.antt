@@ -38,6 +38,10 @@ new_pair = record { side = Spare; generation = None; size = 0; end = 0; at = 0; 
 abbrev pub can_append : KeptLogState → Bool
 can_append log = if is_none log.generation then false else (if is_some log.renewed then false else nat_le log.end log.next)
 
+-- records wait behind it
+abbrev pub has_waiting : KeptLogState → Bool
+has_waiting log = nat_lt log.end log.at
+
 -- a generation has one behind it
 abbrev pub has_next : Option ℕ → Bool
 has_next None = true

@@ -2,7 +2,7 @@
 
 ghost use Rattle.std.specs.Prelude.{◌≡◌, ◌≢◌, ◌+◌, ◌<◌, ◌≤◌, ◌-◌, ◌^◌, List, ℕ, [], OnOk, IfOk, length, max};
 ghost use Rattle.twin_log.specs.Twins.{Has};
-ghost use Rattle.twin_log.specs.KeptLogs.{StandsTwin, WaitsTwin};
+ghost use Rattle.twin_log.specs.KeptLogs.{StandsTwin, WaitsTwin, has_waiting};
 ghost use Rattle.twin_log.specs.LogCalls.{AppendsTwin, CountsTwins, SealsTwin, StagesOn, SealsOn, TellAsBefore, WaitsMore, sealed_log, staged_log};
 
 use crate::kept_log::KeptLog;
@@ -74,6 +74,13 @@ impl KeptLog {
         self.at = at;
         self.size = self.size.max(at + 1);
         Ok(())
+    }
+
+    /// Records wait behind the log.
+    pub fn has_waiting(&self) -> bool
+        ensures { result ≡ has_waiting self.now }
+    {
+        self.end < self.at
     }
 
     /// Makes the records that wait part of the log, in three calls of its disk: a crash leaves it without them, or with all of them, and
