@@ -33,29 +33,6 @@ pub goes_on : {T : Type 0} (spent : Option StoreFault) (after : ServerState) (ol
     → StepsSafely spent after old disk spare result new disk' spare' → Becomes after old disk spare result new disk' spare' × IsCrashSafe old.server after disk spare result disk' spare'
 goes_on {T = T} spent after old disk spare result new disk' spare' is steps = subst (λ (x : Option StoreFault). StepsSafely {T = T} x after old disk spare result new disk' spare') is steps
 
--- ---- what a crash leaves
-
--- a disk whose spare tells nothing
-no_spare : (P : List ℕ → List ℕ → Type 0) (disk : Option DiskLife) → LeavesBothNow disk None P
-no_spare P None = tt
-no_spare P (Some disk) = tt
-
-at_images : (P : List ℕ → List ℕ → Type 0) (spare : DiskLife) (disk' spare' : Option DiskLife) → Told disk' (λ life. AllImages (λ left. LeavesSince (Some spare) spare' (P left)) life.now) → LeavesBothNow disk' spare' P
-at_images P spare None spare' h = tt
-at_images P spare (Some life) None h = tt
-at_images P spare (Some life) (Some other) h = λ left image. since_new (P left) (Some spare) (Some other) (h left image)
-
--- what holds whenever a crash came holds of one that comes now
-both_new : (P : List ℕ → List ℕ → Type 0) (disk spare disk' spare' : Option DiskLife) → LeavesBoth disk spare disk' spare' P → LeavesBothNow disk' spare' P
-both_new P None spare disk' spare' leaves = subst (λ (t : Option DiskLife). LeavesBothNow t spare' P) (sym leaves) tt
-both_new P (Some disk) None disk' spare' leaves = subst (λ (t : Option DiskLife). LeavesBothNow disk' t P) (sym leaves) (no_spare P disk')
-both_new P (Some disk) (Some spare) disk' spare' leaves = at_images P spare disk' spare' (since_new (λ left. LeavesSince (Some spare) spare' (P left)) (Some disk) disk' leaves)
-
--- a crash leaves the one server or the other
-pub leaves_either : {T : Type 0} (after : ServerState) (old : KeptState) (disk spare : Option DiskLife) (result : Result T StoreFault) (disk' spare' : Option DiskLife) → IsCrashSafe old.server after disk spare result disk' spare'
-    → LeavesBothNow disk' spare' (SaysEither old.server after)
-leaves_either after old disk spare result disk' spare' safe = both_new (SaysEither old.server after) disk spare disk' spare' safe.since
-
 -- ---- counts of faults
 
 -- the sum of the counts of both disks is counted as one

@@ -21,6 +21,7 @@ use Rattle.ff_node.specs.declared.fault.EventFault.TheVariants as event
 use Rattle.ff_node.specs.Nodes.{NodeEvent, NodeRule, SentRecords}
 use Rattle.ff_node.specs.Serve.{Beside, NodeRunsOn, end_of_link}
 use Rattle.rpc_record.specs.declared.stream.Failed.{Failed}
+use Rattle.rpc_record.specs.declared.stream.Failed.TheVariants as failed
 use Rattle.node_link.specs.declared.link.Opening.{Opening}
 use Rattle.node_link.specs.declared.link.Role.TheVariants as role
 use Rattle.node_link.specs.Link.{opening_of}
@@ -38,6 +39,7 @@ server_rule = record {
   step = λ s e. record { state = (server_takes s e.arrival).0; sends = (server_takes s e.arrival).1; text = [] };
   outcome = λ s. None;
   is_server = true;
+  more_at_once = 63;
 }
 
 -- A call is not answered where the rule gives no reply to it.
@@ -51,16 +53,22 @@ server_excuses s (TimedOut node xid) = false
 server_excuses s Quiet = false
 server_excuses s Closed = false
 
--- A crash leaves the log of the server as it is; or, where it broke off at an event, of the server as it is before it or behind it.
-abbrev pub server_leaves : ServerState → Option NodeEvent → Option DiskLife → Option DiskLife → Type 0
-server_leaves s None disk spare = LeavesBothNow disk spare (SaysServer s)
-server_leaves s (Some e) disk spare = LeavesBothNow disk spare (SaysEither s (server_takes s e.arrival).0)
+-- A crash leaves the log of the one server or of the other: of the one that it was when it was last settled, or of the one behind the events at
+-- which it broke off, none of which was answered.
+abbrev pub server_leaves : ServerState → ServerState → Option DiskLife → Option DiskLife → Type 0
+server_leaves settled broken disk spare = LeavesBothNow disk spare (SaysEither settled broken)
 
 -- how a call that was not done ends an event
 abbrev pub event_fault : StoreFault → EventFault
 event_fault store.Disk = event.Disk
 event_fault store.Broken = event.Disk
 event_fault store.NoMemory = event.NoMemory
+
+-- the same of settling
+abbrev pub settle_fault : StoreFault → Failed
+settle_fault store.Disk = failed.Fault
+settle_fault store.Broken = failed.Fault
+settle_fault store.NoMemory = failed.NoMemory
 
 -- how a log that could not be opened ends it
 abbrev pub end_of_opening : OpenCause → NodeEnd
@@ -84,9 +92,9 @@ pub record OpensNoLog (config : Config) (disk spare : Option DiskLife) (b : Besi
   pub same : b' ≡ b
   pub left : LeavesOpened config.own disk spare disk' spare'
 
--- the disks have the log of a server that goes on
-abbrev pub StandsOn : KeptState → Option DiskLife → Option DiskLife → Type 0
-StandsOn k disk spare = (k.spent ≡ None) × StandsOnDisks k disk spare
+-- The disks have the log of the settled server, and had since a moment; what the server is to remember since waits behind it.
+abbrev pub KeepsSettled : ServerState → KeptState → Option DiskLife → Option DiskLife → Type 0
+KeepsSettled settled k disk spare = (k.spent ≡ None) × ((began began_spare : Option DiskLife) × WaitsSince settled k.server k.log began began_spare disk spare)
 
 abbrev pub ServesDisks : Config → Option DiskLife → Option DiskLife → Beside → NodeEnd → Beside → Option DiskLife → Option DiskLife → Type 0
 ServesDisks config disk spare b end b' disk' spare' = ServesLog config disk spare b end b' disk' spare' ⊎ OpensNoLog config disk spare b end b' disk' spare'

@@ -1,23 +1,26 @@
 //! A data server as a node.
 
-ghost use Rattle.std.specs.Prelude.{◌≡◌, ◌++◌, ℕ, None, IfOk, OnOk, OnErr};
+ghost use Rattle.std.specs.Prelude.{◌≡◌, ◌++◌, ℕ, None, IfOk, OnOk};
 ghost use Rattle.cluster_model.specs.Server.{ServerState};
 ghost use Rattle.ds_files.specs.Receive.{outcome_of};
 ghost use Rattle.ds_files.specs.Records.{sent_to};
-ghost use Rattle.ds_store.specs.Kept.{LeavesBothNow, SaysEither};
 ghost use Rattle.store_disk.specs.Disks.{both_faults};
-ghost use Rattle.ff_node.specs.Serve.{disk_counted, sink_counted};
-ghost use Rattle.ds_node.specs.Standing.{stepped, stood};
-ghost use Rattle.ds_node.specs.DsNodes.{StandsOn, event_fault, gives_none, server_excuses, server_leaves, server_rule};
+ghost use Rattle.ff_node.specs.Serve.{KeepsOr, disk_counted, sink_counted};
+ghost use Rattle.ds_node.specs.Standing.{stood, turned};
+ghost use Rattle.ds_node.specs.DsNodes.{KeepsSettled, event_fault, gives_none, server_excuses, server_leaves, server_rule, settle_fault};
 
 use cluster_model::{FailCause, NodeId, Outbox};
+use ds_files::Logging;
 use ds_store::{KeptServer, StoreFault};
 use ff_node::{EventFault, Node};
 use node_link::Arrival;
 use record_link::is_call_record;
-use rpc_record::Sink;
+use rpc_record::{Failed, Sink};
 use std::marker::Model;
 use store_disk::Disk;
+
+/// So many more calls are taken together with one, and synced together.
+const MORE_AT_ONCE: u32 = 63;
 
 /// A data server as a node.
 #[derive(Drop)]
@@ -31,6 +34,17 @@ impl Model for DsNode {
     ghost Value = { KeptState };
 
     ghost view = { λ n. n.kept };
+}
+
+/// How the log that could not be settled ends it.
+fn failed_of(fault: StoreFault) -> Failed
+    ensures { result ≡ settle_fault fault }
+{
+    match fault {
+        StoreFault::Disk => Failed::Fault,
+        StoreFault::Broken => Failed::Fault,
+        StoreFault::NoMemory => Failed::NoMemory,
+    }
 }
 
 /// How a call that was not done ends an event.
@@ -60,17 +74,15 @@ impl DsNode {
         disk: &mut D,
         spare: &mut D,
     ) -> Result<bool, EventFault>
-        requires { StandsOn self.old (D.told disk.old) (D.told spare.old) }
         ensures state { OnOk result (self.new.server ≡ (outcome_of self.old.server bytes.now).server) }
         ensures sends { OnOk result (out.new.sends.items ≡ out.old.sends.items ++ sent_to from (outcome_of self.old.server bytes.now).reply) }
         ensures none { IfOk result (λ none. none ≡ gives_none (outcome_of self.old.server bytes.now).reply) }
-        ensures stands { OnOk result (StandsOn self.new (D.told disk.new) (D.told spare.new)) }
-        ensures broken { OnErr result (LeavesBothNow (D.told disk.new) (D.told spare.new) (SaysEither self.old.server (outcome_of self.old.server bytes.now).server)) }
+        ensures keeps { (settled : ServerState) → KeepsSettled settled self.old (D.told disk.old) (D.told spare.old) → KeepsOr KeepsSettled server_leaves settled self.new result (D.told disk.new) (D.told spare.new) }
         ensures faults { both_faults (D.faults disk.new) (D.faults spare.new) ≡ disk_counted result (both_faults (D.faults disk.old) (D.faults spare.old)) }
         ensures sink { (n : ℕ) → sink_counted result n ≡ n }
     {
         let before = out.sends.len();
-        if let Err(fault) = self.kept.answer_record(disk, spare, from, bytes, out) {
+        if let Err(fault) = self.kept.take_record(disk, spare, from, bytes, Logging::Off, out) {
             return Err(fault_of(fault));
         }
         Ok(out.sends.len() == before)
@@ -86,13 +98,13 @@ impl Node for DsNode {
 
     ghost excuses = { λ n a. server_excuses n.server a };
 
-    ghost stands = { StandsOn };
+    ghost keeps = { KeepsSettled };
 
     ghost leaves = { server_leaves };
 
     ghost stood = { stood };
 
-    ghost stepped = { stepped };
+    ghost turned = { turned };
 
     /// A record is answered to the node that it comes from; no other arrival does anything.
     fn take<K: Sink, D: Disk>(
@@ -118,11 +130,26 @@ impl Node for DsNode {
         }
     }
 
+    fn has_waiting(&self) -> bool {
+        self.kept.has_waiting()
+    }
+
+    fn settle<D: Disk>(&mut self, disk: &mut D, spare: &mut D) -> Result<(), Failed> {
+        match self.kept.settle(disk, spare) {
+            Ok(()) => Ok(()),
+            Err(fault) => Err(failed_of(fault)),
+        }
+    }
+
     fn outcome(&self) -> Option<Result<(), FailCause>> {
         None
     }
 
     fn is_server(&self) -> bool {
         true
+    }
+
+    fn more_at_once(&self) -> u32 {
+        MORE_AT_ONCE
     }
 }

@@ -63,14 +63,14 @@ fn serve_log<D: Disk, L: Link>(
 /// Serves as the data server of the node's own number, from the log on its disks, over a link, for as many arrivals as the
 /// configuration has turns: the server is the one that the log says, in its next boot; a record is answered to the node
 /// that it comes from, and no other arrival does anything (RFC 1813). What a call changes for good is in the log, and
-/// synced, before it is answered. It needs no clock. The link is opened first, so that where its address is taken the disks
+/// synced, before it is answered; calls that came together, at most 64, are synced together before any of them is. It needs no clock. The link is opened first, so that where its address is taken the disks
 /// are left alone.
 ///
 /// `NodeEnd::LinkFault` is a fault of the link in opening it or in asking for what comes, and nothing else is.
 /// `NodeEnd::DiskFault` is one of a disk; `NodeEnd::BadLog` and `NodeEnd::BootsSpent` say that their log is bad, or has
-/// the last boot. For want of memory one arrival may have been taken and not answered. However it ends, what it sent went
+/// the last boot. For want of memory arrivals may have been taken and not answered. However it ends, what it sent went
 /// to the streams that take it, and a crash leaves the log of the server as it is behind the arrivals that were answered,
-/// or behind one more.
+/// or behind those more that came together with the next, none of which was answered.
 pub fn serve_ds<D: Disk, L: Link>(
     alloc: Global,
     config: &Config,

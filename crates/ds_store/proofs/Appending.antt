@@ -5,16 +5,16 @@ use Rattle.cluster_model.specs.Server.{ServerState}
 use Rattle.store_disk.specs.Disks.{DiskLife, AllImages, LeavesSince}
 use Rattle.store_disk.proofs.Leaving.{Told, since_both, since_same, since_none, since_weaker, told_weaker}
 use Rattle.twin_log.specs.declared.side.Side.{Side}
-use Rattle.twin_log.specs.Twins.{TwinLog, New, Has, Bad, at_side, opposite}
-use Rattle.twin_log.specs.KeptLogs.{IsFileOf, IsPassed, KeptLogState, StandsTwin, generation_said, next_generation}
-use Rattle.twin_log.specs.LogCalls.{AppendsTwin, OnSide}
+use Rattle.twin_log.specs.Twins.{Has, at_side, opposite}
+use Rattle.twin_log.specs.KeptLogs.{IsFileOf, IsPassed, KeptLogState, StandsPassed, next_generation}
+use Rattle.twin_log.specs.LogCalls.{OnSide}
 use Rattle.twin_log.proofs.Sides.{own_same}
 use Rattle.ds_log.specs.Durable.{applied_bytes, durable, played, unbooted}
 use Rattle.ds_log.proofs.Plays.{played_push}
 use Rattle.ds_store.specs.declared.fault.StoreFault.{StoreFault}
-use Rattle.ds_store.specs.Kept.{IsCrashSafe, IsLogOf, KeepsServer, LeavesBoth, LogsStep, SaysEither, SaysServer, said_by}
+use Rattle.ds_store.specs.Kept.{IsCrashSafe, IsLogOf, LeavesBoth, LogsStep, SaysEither, SaysServer, said_by}
 use Rattle.ds_store.specs.Renewals.{Renews, SaysRenewed}
-use Rattle.ds_store.proofs.BothDisks.{OwnSays, both_since, log_of, own_now, other_now, says_now, says_renewed, says_together}
+use Rattle.ds_store.proofs.BothDisks.{both_since, passed_images, says_now, says_renewed, says_together}
 
 -- ---- nothing is appended
 
@@ -27,20 +27,6 @@ pub answers : {T : Type 0} (before after : ServerState) (disk spare : Option Dis
     → LeavesBoth disk spare disk' spare' (SaysEither before after) → IsLogOf after log disk' spare' → IsCrashSafe before after disk spare result disk' spare'
 answers before after disk spare result disk' spare' log since keeps = record { since = since; answered = λ x ok. says_now after log disk' spare' keeps }
 
-pub since_nothing : (before after : ServerState) (log : KeptLogState) (disk spare : Option DiskLife) → IsLogOf before log disk spare → LeavesBoth disk spare disk spare (SaysEither before after)
-since_nothing before after log None spare keeps = refl
-since_nothing before after log (Some d) None keeps = refl
-since_nothing before after log (Some d) (Some sp) keeps =
-    since_none _ (Some d) (λ left image. since_none _ (Some sp) (λ left_spare image_spare. inl (says_now before log (Some d) (Some sp) keeps left image left_spare image_spare)))
-
--- what lasts is as it was
-pub same_log : (before after : ServerState) (log : KeptLogState) (disk spare : Option DiskLife) → before.number ≡ after.number → durable after ≡ durable before → IsLogOf before log disk spare → IsLogOf after log disk spare
-same_log before after log None spare number lasts keeps = tt
-same_log before after log (Some d) None number lasts keeps = tt
-same_log before after log (Some d) (Some sp) number lasts keeps =
-    log_of after log keeps.generation keeps.start keeps.bodies (Some d) (Some sp) keeps.stands
-    (subst (λ (n : ℕ). played (unbooted n) keeps.start keeps.bodies ≡ Ok (durable after)) number (keeps.says ∙ ap (λ (s : ServerState). Ok s) (sym lasts)))
-
 -- ---- a record is appended
 
 -- the log with one body more
@@ -49,11 +35,11 @@ pub longer : (before after : ServerState) (body : List ℕ) → before.number �
 longer before after body number made start bodies says =
     subst (λ (n : ℕ). played (unbooted n) start (bodies ++ body ∷ []) ≡ Ok (durable after)) number (played_push (unbooted before.number) (durable before) (durable after) start bodies body says made)
 
--- The file has the log without the record, or with it; or the other file has the snapshot behind it.
-module _ (before after : ServerState) (body : List ℕ) (number : before.number ≡ after.number) (made : applied_bytes (durable before) body ≡ Some (durable after))
-    (log : KeptLogState) (generation start : ℕ) (bodies : List (List ℕ)) (generation_is : log.generation ≡ Some generation) (says : played (unbooted before.number) start bodies ≡ Ok (durable before)) where
+-- The file has the log without some records, or with them; or the other file has the snapshot behind it.
+module _ (before after : ServerState) (log : KeptLogState) (generation start : ℕ) (bodies more : List (List ℕ)) (generation_is : log.generation ≡ Some generation) (says : played (unbooted before.number) start bodies ≡ Ok (durable before))
+    (says_then : played (unbooted after.number) start (bodies ++ more) ≡ Ok (durable after)) where
   abbrev pub WithOrWithout : List ℕ → Type 0
-  WithOrWithout left = IsFileOf generation start bodies left ⊎ IsFileOf generation start (bodies ++ body ∷ []) left
+  WithOrWithout left = IsFileOf generation start bodies left ⊎ IsFileOf generation start (bodies ++ more) left
 
   abbrev pub PassedOrRenewed : List ℕ → Type 0
   PassedOrRenewed left = IsPassed log.generation left ⊎ SaysRenewed after (next_generation log.generation) left
@@ -66,19 +52,19 @@ module _ (before after : ServerState) (body : List ℕ) (number : before.number 
 
       by_own : WithOrWithout (at_side log.side left left_spare) → SaysServer after left left_spare
       by_own (inl file) = says_renewed after log.side (Has generation start bodies) left left_spare file of_generation
-      by_own (inr file) = says_renewed after log.side (Has generation start (bodies ++ body ∷ [])) left left_spare file of_generation
+      by_own (inr file) = says_renewed after log.side (Has generation start (bodies ++ more)) left left_spare file of_generation
   either left left_spare (inl file) (inl passed) =
       let here = subst (λ (g : Option ℕ). IsPassed g (at_side (opposite log.side) left left_spare)) generation_is passed in
       inl (ap (said_by before.number) (says_together log.side (Has generation start bodies) left left_spare file here) ∙ says)
   either left left_spare (inr file) (inl passed) =
       let here = subst (λ (g : Option ℕ). IsPassed g (at_side (opposite log.side) left left_spare)) generation_is passed in
-      inr (ap (said_by after.number) (says_together log.side (Has generation start (bodies ++ body ∷ [])) left left_spare file here) ∙ longer before after body number made start bodies says)
+      inr (ap (said_by after.number) (says_together log.side (Has generation start (bodies ++ more)) left left_spare file here) ∙ says_then)
 
-  module _ (disk spare disk1 spare1 : Option DiskLife) (stands : StandsTwin log (Has generation start bodies) disk spare) (crash : OnSide log.side disk spare disk1 spare1 WithOrWithout) where
+  module _ (disk spare disk1 spare1 : Option DiskLife) (passed : StandsPassed log.generation (at_side (opposite log.side) disk spare)) (crash : OnSide log.side disk spare disk1 spare1 WithOrWithout) where
     other_since : LeavesSince (at_side (opposite log.side) disk spare) (at_side (opposite log.side) disk1 spare1) PassedOrRenewed
     other_since =
         since_weaker (IsPassed log.generation) PassedOrRenewed (at_side (opposite log.side) disk spare) (at_side (opposite log.side) disk1 spare1) (λ left h. inl h)
-        (since_same (IsPassed log.generation) (at_side (opposite log.side) disk spare) (at_side (opposite log.side) disk1 spare1) crash.others (other_now log (Has generation start bodies) disk spare stands))
+        (since_same (IsPassed log.generation) (at_side (opposite log.side) disk spare) (at_side (opposite log.side) disk1 spare1) crash.others (passed_images log.generation (at_side (opposite log.side) disk spare) passed))
 
     pub append_since : LeavesBoth disk spare disk1 spare1 (SaysEither before after)
     append_since = both_since log.side WithOrWithout PassedOrRenewed (SaysEither before after) either disk spare disk1 spare1 crash.leaves other_since
@@ -98,7 +84,3 @@ module _ (before after : ServerState) (body : List ℕ) (number : before.number 
 pub logs_as : {E F : Type 0} (before after : ServerState) (disk spare : Option DiskLife) (result : Result (Unit {0}) E) (answer : Result (Unit {0}) F) (log : KeptLogState) (disk' spare' : Option DiskLife)
     → ((x : Unit {0}) → answer ≡ Ok x → result ≡ Ok x) → LogsStep before after disk spare result log disk' spare' → LogsStep before after disk spare answer log disk' spare'
 logs_as before after disk spare result answer log disk' spare' done h = record { since = h.since; kept = λ x is. h.kept x (done x is) }
-
-pub logs_at : {E : Type 0} (before after : ServerState) (disk spare : Option DiskLife) (result : Result (Unit {0}) E) (log last : KeptLogState) (disk' spare' : Option DiskLife) → last ≡ log
-    → LogsStep before after disk spare result log disk' spare' → LogsStep before after disk spare result last disk' spare'
-logs_at before after disk spare result log last disk' spare' same h = subst (λ (l : KeptLogState). LogsStep before after disk spare result l disk' spare') (sym same) h

@@ -5,8 +5,8 @@ use Rattle.std.proofs.lemmas.Option.{same_Some}
 use Rattle.rpc_record.specs.declared.stream.Failed.{Failed}
 use Rattle.cluster_model.specs.File.{StoredFile, restarted}
 use Rattle.cluster_model.specs.Server.{ServerState, files_restarted, server_restarted, restart_of, max_boot}
-use Rattle.store_disk.specs.Disks.{DiskLife, LeavesSince}
-use Rattle.store_disk.proofs.Leaving.{since_none, since_same, since_weaker}
+use Rattle.store_disk.specs.Disks.{DiskLife}
+use Rattle.store_disk.proofs.Leaving.{since_none, since_same}
 use Rattle.twin_log.specs.Twins.{TwinLog, New, Has, Bad, at_side, opposite}
 use Rattle.twin_log.specs.KeptLogs.{IsPassed, KeptLogState, StandsTwin, next_generation}
 use Rattle.twin_log.specs.LogCalls.{AppendsTwin}
@@ -19,7 +19,7 @@ use Rattle.ds_store.specs.Kept.{LeavesBoth, LogsStep, SaysEither, SaysServer, sa
 use Rattle.ds_store.specs.Renewals.{Renews, SaysRenewed}
 use Rattle.ds_store.specs.Opens.{SaysBooting}
 use Rattle.ds_store.specs.Reading.{HasLasting, HasSaid, SaysBoot, is_of_none}
-use Rattle.ds_store.proofs.BothDisks.{OwnSays, both_since, log_of, own_now, other_now, says_renewed, says_together}
+use Rattle.ds_store.proofs.BothDisks.{OwnSays, both_since, both_weaker, log_of, own_now, other_now, says_renewed, says_together}
 use Rattle.ds_store.proofs.Appending.{append_since, longer}
 
 -- ---- its record
@@ -69,15 +69,6 @@ module _ (said next : ServerState) (starts : restart_of said [] ≡ Some next) w
   either_boots : durable said ≡ said → (left left_spare : List ℕ) → SaysEither said next left left_spare → SaysBooting said.number (Ok said) left left_spare
   either_boots lasts left left_spare (inl says) = inl (says ∙ ap (λ (s : ServerState). Ok s) lasts)
   either_boots lasts left left_spare (inr says) = inr (said, next, refl, starts, says)
-
--- ---- what two disks leave
-
--- less is said of it
-both_weaker : (P Q : List ℕ → List ℕ → Type 0) → ((left left_spare : List ℕ) → P left left_spare → Q left left_spare) → (disk spare disk' spare' : Option DiskLife) → LeavesBoth disk spare disk' spare' P → LeavesBoth disk spare disk' spare' Q
-both_weaker P Q w None spare disk' spare' h = h
-both_weaker P Q w (Some d) None disk' spare' h = h
-both_weaker P Q w (Some d) (Some s) disk' spare' h =
-    since_weaker (λ left. LeavesSince (Some s) spare' (P left)) (λ left. LeavesSince (Some s) spare' (Q left)) (Some d) disk' (λ left. since_weaker (P left) (Q left) (Some s) spare' (w left)) h
 
 -- ---- disks that have its log
 
@@ -132,7 +123,7 @@ module _ (said : ServerState) (log : KeptLogState) (disk spare : Option DiskLife
           let made = boot_made said next starts body is.lasts boot in
           let says : played (unbooted said.number) start bodies ≡ Ok (durable said) = is.said ∙ ap (λ (s : ServerState). Ok s) (sym is.lasts) in
           record {
-            since = append_since said next body number made log generation start bodies stands.generation_is says disk spare disk' spare' stands a.crash;
+            since = append_since said next log generation start bodies (body ∷ []) stands.generation_is says (longer said next body number made start bodies says) disk spare disk' spare' stands.other a.crash;
             kept = λ x ok. log_of next log' generation start (bodies ++ body ∷ []) disk' spare' (a.kept x ok) (longer said next body number made start bodies says);
           }
 

@@ -3,7 +3,7 @@ use Rattle.std.proofs.Common.{◌≡◌, ℕ, ◌+◌, ◌<◌, List, Option, So
 use Rattle.rpc_record.specs.declared.stream.Failed.{Failed}
 use Rattle.cluster_model.specs.Server.{ServerState}
 use Rattle.store_disk.specs.Disks.{DiskLife, AllImages, LeavesNow, LeavesSince}
-use Rattle.store_disk.proofs.Leaving.{Told, since_both, since_same, since_none, since_weaker}
+use Rattle.store_disk.proofs.Leaving.{Told, since_both, since_same, since_new, since_none, since_weaker}
 use Rattle.store_disk.proofs.Images.{images_of}
 use Rattle.twin_log.specs.declared.side.Side.{Side}
 use Rattle.twin_log.specs.declared.side.Side.TheVariants as side
@@ -50,6 +50,37 @@ module _ (log_side : Side) (Own Other : List ℕ → Type 0) (P : List ℕ → L
           → LeavesNow (Some d) (λ left. LeavesNow (Some s) (P left))
       by_side side.Disk f own other = λ left image left_spare image_spare. f left left_spare (own left image) (other left_spare image_spare)
       by_side side.Spare f own other = λ left image left_spare image_spare. f left left_spare (own left_spare image_spare) (other left image)
+
+-- less is said of it
+pub both_weaker : (P Q : List ℕ → List ℕ → Type 0) → ((left left_spare : List ℕ) → P left left_spare → Q left left_spare) → (disk spare disk' spare' : Option DiskLife) → LeavesBoth disk spare disk' spare' P → LeavesBoth disk spare disk' spare' Q
+both_weaker P Q w None spare disk' spare' h = h
+both_weaker P Q w (Some d) None disk' spare' h = h
+both_weaker P Q w (Some d) (Some s) disk' spare' h =
+    since_weaker (λ left. LeavesSince (Some s) spare' (P left)) (λ left. LeavesSince (Some s) spare' (Q left)) (Some d) disk' (λ left. since_weaker (P left) (Q left) (Some s) spare' (w left)) h
+
+-- ---- a crash that comes now
+
+-- a disk whose spare tells nothing
+untold_now : (P : List ℕ → List ℕ → Type 0) (disk : Option DiskLife) → LeavesBothNow disk None P
+untold_now P None = tt
+untold_now P (Some disk) = tt
+
+at_images : (P : List ℕ → List ℕ → Type 0) (spare : DiskLife) (disk' spare' : Option DiskLife) → Told disk' (λ life. AllImages (λ left. LeavesSince (Some spare) spare' (P left)) life.now) → LeavesBothNow disk' spare' P
+at_images P spare None spare' h = tt
+at_images P spare (Some life) None h = tt
+at_images P spare (Some life) (Some other) h = λ left image. since_new (P left) (Some spare) (Some other) (h left image)
+
+-- what holds whenever a crash came holds of one that comes now
+pub both_new : (P : List ℕ → List ℕ → Type 0) (disk spare disk' spare' : Option DiskLife) → LeavesBoth disk spare disk' spare' P → LeavesBothNow disk' spare' P
+both_new P None spare disk' spare' leaves = subst (λ (t : Option DiskLife). LeavesBothNow t spare' P) (sym leaves) tt
+both_new P (Some disk) None disk' spare' leaves = subst (λ (t : Option DiskLife). LeavesBothNow disk' t P) (sym leaves) (untold_now P disk')
+both_new P (Some disk) (Some spare) disk' spare' leaves = at_images P spare disk' spare' (since_new (λ left. LeavesSince (Some spare) spare' (P left)) (Some disk) disk' leaves)
+
+-- less is said of what crashes leave now
+pub now_weaker : (P Q : List ℕ → List ℕ → Type 0) → ((left left_spare : List ℕ) → P left left_spare → Q left left_spare) → (disk spare : Option DiskLife) → LeavesBothNow disk spare P → LeavesBothNow disk spare Q
+now_weaker P Q w None spare h = tt
+now_weaker P Q w (Some d) None h = tt
+now_weaker P Q w (Some d) (Some s) h = λ left image left_spare image_spare. w left left_spare (h left image left_spare image_spare)
 
 -- ---- what a file says of a log
 

@@ -1,6 +1,6 @@
 -- How many bytes a log has behind a renewal, and behind a call.
-use Rattle.std.proofs.Common.{◌≡◌, ℕ, ◌+◌, ◌*◌, ◌≤◌, ◌==◌, Bool, true, false, if◌then◌else◌, List, [], ◌∷◌, ◌++◌, length, map, Option, Some, None, OnOk, Result, Ok, Err, ◌⊎◌, inl, inr, refl, sym, ap, subst, ◌∙◌, arith}
-use Rattle.rpc_record.specs.declared.stream.Failed.{Failed}
+use Rattle.std.proofs.Common.{◌≡◌, ℕ, ◌+◌, ◌*◌, ◌≤◌, ◌==◌, Bool, true, false, ◌&&◌, ltb, if◌then◌else◌, List, [], ◌∷◌, ◌++◌, length, map, Option, Some, None, OnOk, Result, Ok, Err, ◌⊎◌, inl, inr, refl, sym, ap, subst, ◌∙◌, arith}
+use Rattle.std.proofs.lemmas.Bool.{le-ltb, lt-ltb, ltb-false}
 use Rattle.cluster_model.specs.Server.{ServerState, Effect, server_after}
 use Rattle.store_disk.specs.Disks.{DiskLife}
 use Rattle.gate_log.specs.Logs.{log_size}
@@ -8,8 +8,8 @@ use Rattle.gate_log.specs.Appends.{HoldsLog}
 use Rattle.twin_log.specs.declared.side.Side.{Side}
 use Rattle.twin_log.specs.declared.side.Side.TheVariants as side
 use Rattle.twin_log.specs.Twins.{TwinLog, Has, at_side, generation_body, generation_in}
-use Rattle.twin_log.specs.KeptLogs.{HoldsFile, KeptLogState, SaysLog, StandsTwin, has_next, next_generation}
-use Rattle.twin_log.specs.LogCalls.{AppendsTwin, HasRenewed, TellAsBefore, renewed_place}
+use Rattle.twin_log.specs.KeptLogs.{HoldsFile, KeptLogState, SaysLog, StandsTwin, has_next, has_waiting}
+use Rattle.twin_log.specs.LogCalls.{HasRenewed, renewed_place, sealed_log, staged_log}
 use Rattle.twin_log.proofs.Files.{length_generation}
 use Rattle.ds_files.specs.Decisions.{CanDo}
 use Rattle.ds_log.specs.Bodies.{Logged}
@@ -17,9 +17,8 @@ use Rattle.ds_log.specs.Durable.{durable}
 use Rattle.ds_log.specs.Steady.{IsSteady}
 use Rattle.ds_snapshot.specs.Snapshots.{AreBodiesOf, body_text, snapshot_of}
 use Rattle.ds_snapshot.specs.Sizes.{bodies_size, snapshot_size}
-use Rattle.ds_store.specs.declared.fault.StoreFault.{StoreFault}
-use Rattle.ds_store.specs.Kept.{IsLogOf, KeepsServer, KeptState}
-use Rattle.ds_store.specs.Renewals.{HasRenewedSize, IsLogBounded, IsWithinLimit, Renews, log_limit, renewed_size}
+use Rattle.ds_store.specs.Kept.{IsLogOf, LeavesBoth, WaitsForOne}
+use Rattle.ds_store.specs.Renewals.{AppendsCall, HasRenewedSize, IsLogBounded, IsWithinLimit, IsWithinThen, RenewsIf, SettlesIf, SettlesLog, is_to_renew, log_limit, renewed_size}
 use Rattle.ds_store.proofs.Growing.{grows}
 
 -- ---- the size of a renewed log
@@ -88,63 +87,112 @@ renewed_within size snapshot is = omega (arith, is)
 within_renewed : (s : ServerState) (log : KeptLogState) → log.size ≡ renewed_size s → IsWithinLimit s log
 within_renewed s log is next = renewed_within log.size (snapshot_size (durable s)) is
 
--- ---- what a call leaves
+-- one that is not to be renewed is
+and_false : (a b : Bool) → (a && b) ≡ false → a ≡ true → b ≡ false
+and_false true b h is = h
+and_false false b h is = absurd (cc (is))
 
--- the log is as it was
-pub same_bounded : {T E : Type 0} (old : KeptLogState) (result : Result T E) (s : ServerState) (new : KeptLogState) (disk spare : Option DiskLife) → new ≡ old → IsLogBounded old result s new disk spare
-same_bounded old (Err e) s new disk spare same = tt
-same_bounded old (Ok x) s new None spare same = tt
-same_bounded old (Ok x) s new (Some disk) None same = tt
-same_bounded old (Ok x) s new (Some disk) (Some spare) same = inl same
+pub within_not : (s : ServerState) (log : KeptLogState) → is_to_renew s log ≡ false → IsWithinLimit s log
+within_not s log not next = ltb-false (log_limit s) log.size (and_false (has_next log.generation) (ltb (log_limit s) log.size) not next)
 
--- it is within its limit
-pub within_bounded : {T E : Type 0} (old : KeptLogState) (result : Result T E) (s : ServerState) (new : KeptLogState) (disk spare : Option DiskLife) → IsWithinLimit s new → IsLogBounded old result s new disk spare
-within_bounded old (Err e) s new disk spare within = tt
-within_bounded old (Ok x) s new None spare within = tt
-within_bounded old (Ok x) s new (Some disk) None within = tt
-within_bounded old (Ok x) s new (Some disk) (Some spare) within = inr within
+-- ---- what settling leaves
 
--- a call that failed says nothing
-pub failed_bounded : {T E : Type 0} (old : KeptLogState) (result : Result T E) (s : ServerState) (new : KeptLogState) (disk spare : Option DiskLife) (e : E) → result ≡ Err e → IsLogBounded old result s new disk spare
-failed_bounded old (Err e) s new disk spare f is = tt
-failed_bounded old (Ok x) s new disk spare f is = absurd (cc (is))
+pub then_within : {E : Type 0} (s : ServerState) (old : KeptLogState) (result : Result (Unit {0}) E) (new : KeptLogState) (disk spare : Option DiskLife) → IsWithinLimit s new → IsWithinThen s old result new disk spare
+then_within s old (Err e) new disk spare within = tt
+then_within s old (Ok x) new None spare within = tt
+then_within s old (Ok x) new (Some disk) None within = tt
+then_within s old (Ok x) new (Some disk) (Some spare) within = λ waits. within
 
--- the same call, as it is answered
-pub bounded_as : {T U E F : Type 0} (old : KeptLogState) (result : Result T E) (answer : Result U F) (s : ServerState) (new : KeptLogState) (disk spare : Option DiskLife) (x : T) → result ≡ Ok x
-    → IsLogBounded old result s new disk spare → IsLogBounded old answer s new disk spare
-bounded_as old (Err e) answer s new disk spare x is h = absurd (cc (is))
-bounded_as old (Ok y) (Err f) s new disk spare x is h = tt
-bounded_as old (Ok y) (Ok z) s new None spare x is h = tt
-bounded_as old (Ok y) (Ok z) s new (Some disk) None x is h = tt
-bounded_as old (Ok y) (Ok z) s new (Some disk) (Some spare) x is h = h
+pub then_failed : {E : Type 0} (s : ServerState) (old : KeptLogState) (result : Result (Unit {0}) E) (new : KeptLogState) (disk spare : Option DiskLife) (e : E) → result ≡ Err e → IsWithinThen s old result new disk spare
+then_failed s old (Err f) new disk spare e is = tt
+then_failed s old (Ok x) new disk spare e is = absurd (cc (is))
 
--- disks of which one tells nothing
-no_disk : {T E : Type 0} (old : KeptLogState) (result : Result T E) (s : ServerState) (new : KeptLogState) (disk spare : Option DiskLife) → disk ≡ None → IsLogBounded old result s new disk spare
-no_disk old (Err e) s new disk spare none = tt
-no_disk old (Ok x) s new None spare none = tt
-no_disk old (Ok x) s new (Some d) spare none = absurd (cc (none))
+pub then_none : {E : Type 0} (s : ServerState) (old : KeptLogState) (result : Result (Unit {0}) E) (new : KeptLogState) (disk spare : Option DiskLife) → has_waiting old ≡ false → IsWithinThen s old result new disk spare
+then_none s old (Err e) new disk spare none = tt
+then_none s old (Ok x) new None spare none = tt
+then_none s old (Ok x) new (Some disk) None none = tt
+then_none s old (Ok x) new (Some disk) (Some spare) none = λ waits. absurd (cc (waits, none))
 
-no_spare : {T E : Type 0} (old : KeptLogState) (result : Result T E) (s : ServerState) (new : KeptLogState) (disk spare : Option DiskLife) → spare ≡ None → IsLogBounded old result s new disk spare
-no_spare old (Err e) s new disk spare none = tt
-no_spare old (Ok x) s new None spare none = tt
-no_spare old (Ok x) s new (Some d) None none = tt
-no_spare old (Ok x) s new (Some d) (Some sp) none = absurd (cc (none))
+-- the same, as it is answered
+pub then_as : {E F : Type 0} (s : ServerState) (old : KeptLogState) (result : Result (Unit {0}) E) (answer : Result (Unit {0}) F) (new : KeptLogState) (disk spare : Option DiskLife) → ((x : Unit {0}) → answer ≡ Ok x → result ≡ Ok x)
+    → IsWithinThen s old result new disk spare → IsWithinThen s old answer new disk spare
+then_as s old result (Err f) new disk spare done h = tt
+then_as s old (Err e) (Ok x) new disk spare done h = absurd (cc (done x refl))
+then_as s old (Ok y) (Ok x) new None spare done h = tt
+then_as s old (Ok y) (Ok x) new (Some disk) None done h = tt
+then_as s old (Ok y) (Ok x) new (Some disk) (Some spare) done h = h
 
 -- it has the size of a renewed one
-size_bounded : {T E : Type 0} (old : KeptLogState) (result : Result T E) (s : ServerState) (new : KeptLogState) (disk spare : Option DiskLife) → ((x : T) → result ≡ Ok x → HasRenewedSize s new disk spare) → IsLogBounded old result s new disk spare
-size_bounded old (Err e) s new disk spare size = tt
-size_bounded old (Ok x) s new None spare size = tt
-size_bounded old (Ok x) s new (Some disk) None size = tt
-size_bounded old (Ok x) s new (Some disk) (Some spare) size = inr (within_renewed s new (size x refl))
+pub then_renewed : {E : Type 0} (s : ServerState) (old : KeptLogState) (result : Result (Unit {0}) E) (new : KeptLogState) (disk spare : Option DiskLife) → ((x : Unit {0}) → result ≡ Ok x → HasRenewedSize s new disk spare) → IsWithinThen s old result new disk spare
+then_renewed s old (Err e) new disk spare size = tt
+then_renewed s old (Ok x) new None spare size = tt
+then_renewed s old (Ok x) new (Some disk) None size = tt
+then_renewed s old (Ok x) new (Some disk) (Some spare) size = λ waits. within_renewed s new (size x refl)
 
--- a record was appended, and the log renewed behind it
-pub renew_bounded : (before after : ServerState) (body : List ℕ) (old log : KeptLogState) (disk spare : Option DiskLife) (x : Unit {0}) (log1 : KeptLogState) (disk1 spare1 : Option DiskLife) → IsLogOf before log disk spare
-    → ((generation start : ℕ) (bodies : List (List ℕ)) → StandsTwin log (Has generation start bodies) disk spare → AppendsTwin {E = Failed} log disk spare generation start bodies body (Ok x) log1 disk1 spare1)
-    → TellAsBefore disk spare disk1 spare1
-    → (result : Result (Unit {0}) Failed) (log2 : KeptLogState) (disk2 spare2 : Option DiskLife) → ((says : TwinLog) → StandsTwin log1 says disk1 spare1 → Renews after log1 disk1 spare1 result log2 disk2 spare2)
-    → TellAsBefore disk spare disk2 spare2 → IsLogBounded old result after log2 disk2 spare2
-renew_bounded before after body old log None spare x log1 disk1 spare1 keeps appends tells result log2 disk2 spare2 renews tells2 = no_disk old result after log2 disk2 spare2 tells2.0
-renew_bounded before after body old log (Some d) None x log1 disk1 spare1 keeps appends tells result log2 disk2 spare2 renews tells2 = no_spare old result after log2 disk2 spare2 tells2.1
-renew_bounded before after body old log (Some d) (Some sp) x log1 disk1 spare1 keeps appends tells result log2 disk2 spare2 renews tells2 =
-    let h = appends keeps.generation keeps.start keeps.bodies keeps.stands in
-    size_bounded old result after log2 disk2 spare2 (renews (Has keeps.generation keeps.start (keeps.bodies ++ body ∷ [])) (h.kept x refl)).size
+-- ---- what it makes of the log
+
+-- the same of a log whose numbers are those of one that was sealed
+pub renewed_of : (old log new : KeptLogState) → log ≡ sealed_log old → HasRenewed log new → HasRenewed old new
+renewed_of old log new is h =
+    let here : HasRenewed (sealed_log old) new = subst (λ (l : KeptLogState). HasRenewed l new) is h in
+    record { side = here.side; generation = here.generation; size = here.size; next = here.next; place = here.place; none_renews = here.none_renews }
+
+settles_as : (b : Bool) (s : ServerState) (old new : KeptLogState) → b ≡ true → RenewsIf (is_to_renew s old) old new → SettlesIf b s old new
+settles_as true s old new waits h = h
+settles_as false s old new waits h = absurd (cc (waits))
+
+renews_as : (b : Bool) (old new : KeptLogState) → b ≡ true → HasRenewed old new → RenewsIf b old new
+renews_as true old new is h = h
+renews_as false old new is h = absurd (cc (is))
+
+stays_as : (b : Bool) (old new : KeptLogState) → b ≡ false → new ≡ sealed_log old → RenewsIf b old new
+stays_as true old new is h = absurd (cc (is))
+stays_as false old new is h = h
+
+pub settles_renewed : (s : ServerState) (old log new : KeptLogState) → has_waiting old ≡ true → log ≡ sealed_log old → is_to_renew s log ≡ true → HasRenewed log new → SettlesLog s old new
+settles_renewed s old log new waits is renew h =
+    settles_as (has_waiting old) s old new waits (renews_as (is_to_renew s old) old new (subst (λ (l : KeptLogState). is_to_renew s l ≡ true) is renew) (renewed_of old log new is h))
+
+pub settles_sealed : (s : ServerState) (old log : KeptLogState) → has_waiting old ≡ true → log ≡ sealed_log old → is_to_renew s log ≡ false → SettlesLog s old log
+settles_sealed s old log waits is renew = settles_as (has_waiting old) s old log waits (stays_as (is_to_renew s old) old log (subst (λ (l : KeptLogState). is_to_renew s l ≡ false) is renew) is)
+
+pub settles_none : (s : ServerState) (old new : KeptLogState) → has_waiting old ≡ false → new ≡ old → SettlesLog s old new
+settles_none s old new none same = by_flag (has_waiting old) none
+  where
+    by_flag : (b : Bool) → b ≡ false → SettlesIf b s old new
+    by_flag true is = absurd (cc (is))
+    by_flag false is = same
+
+-- ---- what a call leaves
+
+-- a call that failed says nothing
+pub failed_bounded : {T E : Type 0} (before : ServerState) (old : KeptLogState) (result : Result T E) (after : ServerState) (new : KeptLogState) (disk spare : Option DiskLife) (e : E) → result ≡ Err e → IsLogBounded before old result after new disk spare
+failed_bounded before old (Err e) after new disk spare f is = tt
+failed_bounded before old (Ok x) after new disk spare f is = absurd (cc (is))
+
+not_waiting : (log : KeptLogState) → log.at ≡ log.end → has_waiting log ≡ false
+not_waiting log none = le-ltb log.end log.at (omega (arith, none))
+
+settled_same : (b : Bool) (s : ServerState) (old new : KeptLogState) → b ≡ false → SettlesIf b s old new → new ≡ old
+settled_same true s old new none h = absurd (cc (none))
+settled_same false s old new none h = h
+
+module _ (before after : ServerState) (old mid new : KeptLogState) (one : WaitsForOne before old after mid) (settles : SettlesLog after mid new) where
+  appended : (disk spare : DiskLife) (x : Unit {0}) {E : Type 0} → old.at ≡ old.end → IsWithinThen {E = E} after mid (Ok x) new (Some disk) (Some spare) → (new ≡ old) ⊎ AppendsCall before after old new
+  appended disk spare x none within = by_one one
+    where
+      by_one : WaitsForOne before old after mid → (new ≡ old) ⊎ AppendsCall before after old new
+      by_one (inl same) = inl (settled_same (has_waiting mid) after mid new (ap has_waiting same ∙ not_waiting old none) settles ∙ same)
+      by_one (inr (body, made, is)) =
+          let waits : has_waiting mid ≡ true = ap has_waiting is ∙ lt-ltb old.end (old.at + 5 + length body) (omega (arith, none)) in
+          inr (record { body = body; made = made; settles = subst (λ (l : KeptLogState). SettlesLog after l new) is settles; within = within waits })
+
+  -- it appended nothing, or its record
+  pub call_bounded : {T E F : Type 0} (P : List ℕ → List ℕ → Type 0) (disk spare disk' spare' : Option DiskLife) → IsLogOf before old disk spare → LeavesBoth disk spare disk' spare' P → (x : Unit {0}) → IsWithinThen {E = F} after mid (Ok x) new disk' spare'
+      → (result : Result T E) → IsLogBounded before old result after new disk' spare'
+  call_bounded P disk spare disk' spare' keeps since x within (Err e) = tt
+  call_bounded P disk spare None spare' keeps since x within (Ok y) = tt
+  call_bounded P disk spare (Some d') None keeps since x within (Ok y) = tt
+  call_bounded P None spare (Some d') (Some s') keeps since x within (Ok y) = absurd (cc (since))
+  call_bounded P (Some d) None (Some d') (Some s') keeps since x within (Ok y) = absurd (cc (since))
+  call_bounded P (Some d) (Some s) (Some d') (Some s') keeps since x within (Ok y) = appended d' s' x keeps.stands.none_waits within

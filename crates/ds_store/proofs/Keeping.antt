@@ -14,11 +14,11 @@ use Rattle.ds_changes.proofs.Keeping.{same_boot, steady_after}
 use Rattle.ds_changes.proofs.Lasting.{body_logged, nothing_logged}
 use Rattle.ds_store.specs.declared.fault.StoreFault.{StoreFault}
 use Rattle.ds_store.specs.declared.fault.StoreFault.TheVariants.{Disk, Broken, NoMemory}
-use Rattle.ds_store.specs.Kept.{AreSameDisks, Becomes, IsCrashSafe, IsLogOf, IsRecordOf, KeptState, LogsStep, SpendsBy, StandsOnDisks, StepsSafely}
+use Rattle.ds_store.specs.Kept.{Becomes, IsCrashSafe, IsLogOf, IsRecordOf, KeptState, LogsStep, SaysEither, SaysServer, SpendsBy, StandsOnDisks, StepsSafely, TakesSince, WaitsSince}
 use Rattle.ds_store.proofs.Numbers.{number_after}
 use Rattle.twin_log.specs.KeptLogs.{KeptLogState}
-use Rattle.ds_store.proofs.Appending.{answers, in_part, same_log, since_nothing}
-use Rattle.ds_store.proofs.BothDisks.{says_now}
+use Rattle.ds_store.proofs.BothDisks.{both_weaker, says_now}
+use Rattle.ds_store.proofs.Waiting.{settled_now, waits_as, waits_from}
 
 -- ---- the record of a step
 
@@ -67,70 +67,103 @@ steps after wanted k disk spare result new disk' spare' same none becomes crash 
 pub after_decision : (inside k : KeptState) (what : Effect) (message : List ℕ) → inside ≡ k → what ≡ effect_of inside.server message → server_after k.server what ≡ (outcome_of k.server message).server
 after_decision inside k what message same is = ap (server_after k.server) (is ∙ ap (λ (b : KeptState). effect_of b.server message) same) ∙ after_record k.server message
 
--- memory was wanted before anything was done
-pub stays : {T : Type 0} (after : ServerState) (k : KeptState) (disk spare : Option DiskLife) (result : Result T StoreFault) → k.spent ≡ None → StandsOnDisks k disk spare → result ≡ Err NoMemory
-    → StepsSafely k.spent after k disk spare result k disk spare
-stays after k disk spare result none stands is =
-    subst (λ (r : Result _ StoreFault). StepsSafely k.spent after k disk spare r k disk spare) (sym is)
-    (steps after after k disk spare (Err NoMemory) k disk spare refl none (inr (refl, (refl, refl))) (in_part k.server after disk spare NoMemory disk spare (since_nothing k.server after k.log disk spare (stands none))))
+-- ---- what is to be done is done in memory, and then its record is written
 
-pub not_done : {T : Type 0} (after : ServerState) (k : KeptState) (disk spare : Option DiskLife) (result : Result T StoreFault) (e : StoreFault) → k.spent ≡ None → StandsOnDisks k disk spare → result ≡ Err e
-    → IsCrashSafe k.server after disk spare result disk spare
-not_done after k disk spare result e none stands is =
-    subst (λ (r : Result _ StoreFault). IsCrashSafe k.server after disk spare r disk spare) (sym is) (in_part k.server after disk spare e disk spare (since_nothing k.server after k.log disk spare (stands none)))
-
--- nothing of it is to be logged
-pub none_logged : {T : Type 0} (inside k : KeptState) (what : Effect) (disk spare : Option DiskLife) (result : Result T StoreFault) → inside ≡ k → k.spent ≡ None → StandsOnDisks k disk spare → IsRecordOf inside.server what None
-    → IsCrashSafe k.server (server_after k.server what) disk spare result disk spare
-none_logged inside k what disk spare result same none stands is_record =
-    let lasts = subst (λ (b : KeptState). IsRecordOf b.server what None) same is_record in
-    let after = server_after k.server what in
-    record {
-      since = since_nothing k.server after k.log disk spare (stands none);
-      answered = λ x ok. says_now after k.log disk spare (same_log k.server after k.log disk spare (number_after k.server what) lasts (stands none));
-    }
-
--- ---- what is to be done is done in memory, and then its record is logged
-
-module _ (k before : KeptState) (same : k ≡ before) (what : Effect) (server : ServerState) (made : server ≡ server_after k.server what) (going : before.spent ≡ None) (disk spare : Option DiskLife) (stands : StandsOnDisks before disk spare) where
-  holds : IsLogOf k.server k.log disk spare
-  holds = subst (λ (b : KeptState). IsLogOf b.server b.log disk spare) (sym same) (stands going)
-
+module _ (k before : KeptState) (same : k ≡ before) (what : Effect) (server : ServerState) (made : server ≡ server_after k.server what) where
   wanted : server ≡ server_after before.server what
   wanted = made ∙ ap (λ (b : KeptState). server_after b.server what) same
 
-  number : k.server.number ≡ server.number
-  number = number_after k.server what ∙ ap (λ (s : ServerState). s.number) (sym made)
+  pub number : before.server.number ≡ server.number
+  number = number_after before.server what ∙ ap (λ (s : ServerState). s.number) (sym wanted)
 
-  module _ (body : List ℕ) (is_record : IsRecordOf k.server what (Some body)) (result : Result (Unit {0}) StoreFault) (last : KeptState) (disk' spare' : Option DiskLife)
-      (logs : (b : ServerState) → IsLogOf b k.log disk spare → b.number ≡ server.number → applied_bytes (durable b) body ≡ Some (durable server) → LogsStep b server disk spare result last.log disk' spare')
-      (server_stays : last.server ≡ server) (spends : SpendsBy result last.spent) where
-    step : LogsStep k.server server disk spare result last.log disk' spare'
-    step = logs k.server holds number (is_record ∙ ap (λ (s : ServerState). Some (durable s)) (sym made))
-
+  module _ (last : KeptState) (server_stays : last.server ≡ server) (disk spare disk' spare' : Option DiskLife) where
     by_result : (r : Result (Unit {0}) StoreFault) → SpendsBy r last.spent → Becomes server before disk spare r last disk' spare'
     by_result (Ok x) spent = (server_stays, spent)
     by_result (Err Disk) spent = spent
     by_result (Err Broken) spent = absurd spent
     by_result (Err NoMemory) spent = inl spent
 
-    pub becomes : Becomes (server_after before.server what) before disk spare result last disk' spare'
-    becomes = subst (λ (s : ServerState). Becomes s before disk spare result last disk' spare') wanted (by_result result spends)
+    pub becomes : (result : Result (Unit {0}) StoreFault) → SpendsBy result last.spent → Becomes (server_after before.server what) before disk spare result last disk' spare'
+    becomes result spends = subst (λ (s : ServerState). Becomes s before disk spare result last disk' spare') wanted (by_result result spends)
 
-    safe : (r : Result (Unit {0}) StoreFault) → LogsStep k.server server disk spare r last.log disk' spare' → IsCrashSafe k.server server disk spare r disk' spare'
-    safe (Ok x) h = answers k.server server disk spare (Ok x) disk' spare' last.log h.since (h.kept x refl)
-    safe (Err e) h = in_part k.server server disk spare e disk' spare' h.since
+  pub body_made : (body : List ℕ) → IsRecordOf k.server what (Some body) → applied_bytes (durable before.server) body ≡ Some (durable server)
+  body_made body is_record = subst (λ (b : KeptState). IsRecordOf b.server what (Some body)) same is_record ∙ ap (λ (s : ServerState). Some (durable s)) (sym wanted)
 
-    pub is_crash_safe : IsCrashSafe before.server (server_after before.server what) disk spare result disk' spare'
-    is_crash_safe =
-        subst (λ (s : ServerState). IsCrashSafe before.server s disk spare result disk' spare') wanted
-        (subst (λ (b : KeptState). IsCrashSafe b.server server disk spare result disk' spare') same (safe result step))
+  pub none_made : IsRecordOf k.server what None → durable server ≡ durable before.server
+  none_made is_record = ap durable wanted ∙ subst (λ (b : KeptState). IsRecordOf b.server what None) same is_record
 
-    stands_by : (r : Result (Unit {0}) StoreFault) → result ≡ r → SpendsBy r last.spent → StandsOnDisks last disk' spare'
-    stands_by (Ok x) is spent none = subst (λ (s : ServerState). IsLogOf s last.log disk' spare') (sym server_stays) (step.kept x is)
+  -- nothing of it is to be logged
+  pub takes_none : {T : Type 0} (last : KeptState) → last.server ≡ server → last.log ≡ before.log → (disk spare : Option DiskLife) (result : Result T StoreFault) → IsRecordOf k.server what None
+      → (settled : ServerState) (began began_spare : Option DiskLife) → WaitsSince settled before.server before.log began began_spare disk spare → TakesSince settled began began_spare result last disk spare
+  takes_none last server_is log_is disk spare result is_record settled began began_spare w = record {
+    since = settled_now settled before.server before.log began began_spare disk spare w;
+    waits = λ x ok.
+        subst (λ (s : ServerState). WaitsSince settled s last.log began began_spare disk spare) (sym server_is)
+        (subst (λ (l : KeptLogState). WaitsSince settled server l began began_spare disk spare) (sym log_is)
+        (waits_as settled before.server before.log server began began_spare disk spare number (none_made is_record) w));
+  }
+
+-- ---- a call is taken, and what waits is settled
+
+module _ (after : ServerState) (old : KeptState) (disk spare : Option DiskLife) (going : old.spent ≡ None) (stands : StandsOnDisks old disk spare) where
+  pub waits_before : WaitsSince old.server old.server old.log disk spare disk spare
+  waits_before = waits_from old.server old.log disk spare (stands going)
+
+  -- it was not taken
+  pub not_taken : {T : Type 0} (result : Result T StoreFault) (e : StoreFault) (new : KeptState) (disk' spare' : Option DiskLife) → result ≡ Err e → TakesSince old.server disk spare result new disk' spare'
+      → IsCrashSafe old.server after disk spare result disk' spare'
+  not_taken result e new disk' spare' is takes = record {
+    since = both_weaker (SaysServer old.server) (SaysEither old.server after) (λ left left_spare says. inl says) disk spare disk' spare' takes.since;
+    answered = λ x ok. absurd (cc (is, ok));
+  }
+
+  stands_as : {T : Type 0} (r : Result T StoreFault) (new : KeptState) (disk' spare' : Option DiskLife) → Becomes after old disk spare r new disk' spare' → (e : StoreFault) → r ≡ Err e → StandsOnDisks new disk' spare'
+  stands_as (Ok x) new disk' spare' becomes e is = absurd (cc (is))
+  stands_as (Err Disk) new disk' spare' becomes e is = λ none. absurd (cc (becomes, none))
+  stands_as (Err Broken) new disk' spare' becomes e is = absurd becomes
+  stands_as (Err NoMemory) new disk' spare' (inl spent) e is = λ none. absurd (cc (spent, none))
+  stands_as (Err NoMemory) new disk' spare' (inr same) e is =
+      subst (λ (k : KeptState). StandsOnDisks k disk' spare') (sym same.0)
+      (subst (λ (t : Option DiskLife). StandsOnDisks old t spare') (sym same.1) (subst (λ (t : Option DiskLife). StandsOnDisks old disk t) (sym same.2) stands))
+
+  pub stands_not_taken : {T : Type 0} (result : Result T StoreFault) (e : StoreFault) (new : KeptState) (disk' spare' : Option DiskLife) → result ≡ Err e → Becomes after old disk spare result new disk' spare' → StandsOnDisks new disk' spare'
+  stands_not_taken result e new disk' spare' is becomes = stands_as result new disk' spare' becomes e is
+
+  -- it was taken, and this is how what waits was settled
+  module _ {T : Type 0} (x : T) (mid : KeptState) (disk1 spare1 : Option DiskLife) (taken : Becomes after old disk spare (Ok x) mid disk1 spare1) (takes : TakesSince {T = T} old.server disk spare (Ok x) mid disk1 spare1)
+      (settled : Result (Unit {0}) StoreFault) (new : KeptState) (disk2 spare2 : Option DiskLife) (server : new.server ≡ mid.server) (spends : SpendsBy settled new.spent)
+      (settles : (s : ServerState) (began began_spare : Option DiskLife) → WaitsSince s mid.server mid.log began began_spare disk1 spare1 → LogsStep s mid.server began began_spare settled new.log disk2 spare2) where
+    step : LogsStep old.server mid.server disk spare settled new.log disk2 spare2
+    step = settles old.server disk spare (takes.waits x refl)
+
+    step_after : LogsStep old.server after disk spare settled new.log disk2 spare2
+    step_after = subst (λ (s : ServerState). LogsStep old.server s disk spare settled new.log disk2 spare2) taken.0 step
+
+    pub settled_safe : {U : Type 0} (answer : Result U StoreFault) → ((u : U) → answer ≡ Ok u → settled ≡ Ok tt) → IsCrashSafe old.server after disk spare answer disk2 spare2
+    settled_safe answer done = record {
+      since = step_after.since;
+      answered = λ u ok. says_now after new.log disk2 spare2 (step_after.kept tt (done u ok));
+    }
+
+    answered_by : {U : Type 0} (r : Result (Unit {0}) StoreFault) → SpendsBy r new.spent → (answer : Result U StoreFault) → ((u : U) → answer ≡ Ok u → r ≡ Ok tt) → ((e : StoreFault) → answer ≡ Err e → r ≡ Err e) → Becomes after old disk spare answer new disk2 spare2
+    answered_by (Ok y) spent (Ok u) done failed = (server ∙ taken.0, spent)
+    answered_by (Ok y) spent (Err e) done failed = absurd (cc (failed e refl))
+    answered_by (Err e) spent (Ok u) done failed = absurd (cc (done u refl))
+    answered_by (Err e) spent (Err f) done failed = by_fault f (subst (λ (r : Result (Unit {0}) StoreFault). SpendsBy r new.spent) (failed f refl) spent)
+      where
+        by_fault : (g : StoreFault) → SpendsBy {T = Unit {0}} (Err g) new.spent → Becomes {T = _} after old disk spare (Err g) new disk2 spare2
+        by_fault Disk s = s
+        by_fault Broken s = absurd s
+        by_fault NoMemory s = inl s
+
+    pub settled_becomes : {U : Type 0} (answer : Result U StoreFault) → ((u : U) → answer ≡ Ok u → settled ≡ Ok tt) → ((e : StoreFault) → answer ≡ Err e → settled ≡ Err e) → Becomes after old disk spare answer new disk2 spare2
+    settled_becomes answer done failed = answered_by settled spends answer done failed
+
+    stands_by : (r : Result (Unit {0}) StoreFault) → settled ≡ r → SpendsBy r new.spent → StandsOnDisks new disk2 spare2
+    stands_by (Ok y) is spent none = subst (λ (s : ServerState). IsLogOf s new.log disk2 spare2) (sym server) (step.kept y is)
     stands_by (Err Disk) is spent none = absurd (cc (spent, none))
     stands_by (Err Broken) is spent none = absurd spent
     stands_by (Err NoMemory) is spent none = absurd (cc (spent, none))
 
-    pub stands_then : StandsOnDisks last disk' spare'
-    stands_then = stands_by result refl spends
+    pub stands_then : StandsOnDisks new disk2 spare2
+    stands_then = stands_by settled refl spends

@@ -1,6 +1,7 @@
 pub mod Numbers
 pub mod BothDisks
 pub mod Appending
+pub mod Waiting
 pub mod Logging
 pub mod Keeping
 pub mod Snapshots

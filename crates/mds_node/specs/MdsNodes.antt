@@ -40,4 +40,5 @@ mds_node_rule = record {
   step = λ n e. record { state = mds_node_after e n; sends = records_sent (mds_does e n); text = [] };
   outcome = λ n. None;
   is_server = true;
+  more_at_once = 0;
 }

@@ -15,7 +15,7 @@ use ff_xdr::NoMemory;
 use mds_core::Mds;
 use node_config::Config;
 use node_link::Arrival;
-use rpc_record::Sink;
+use rpc_record::{Failed, Sink};
 use std::alloc::Global;
 use std::marker::Model;
 use store_disk::Disk;
@@ -97,13 +97,13 @@ impl Node for MdsNode {
 
     ghost excuses = { λ _ _. false };
 
-    ghost stands = { λ _ _ _. ⊤ };
+    ghost keeps = { λ _ _ _ _. ⊤ };
 
     ghost leaves = { LeavesNothing };
 
-    ghost stood = { λ _ _ _ _. tt };
+    ghost stood = { λ _ _ _ _ _ _. tt };
 
-    ghost stepped = { λ _ _ _ _ _ _ _. tt };
+    ghost turned = { λ _ _ _ _ _. tt };
 
     fn take<K: Sink, D: Disk>(
         &mut self,
@@ -120,11 +120,24 @@ impl Node for MdsNode {
         }
     }
 
+    fn has_waiting(&self) -> bool {
+        false
+    }
+
+    /// It remembers nothing.
+    fn settle<D: Disk>(&mut self, _disk: &mut D, _spare: &mut D) -> Result<(), Failed> {
+        Ok(())
+    }
+
     fn outcome(&self) -> Option<Result<(), FailCause>> {
         None
     }
 
     fn is_server(&self) -> bool {
         true
+    }
+
+    fn more_at_once(&self) -> u32 {
+        0
     }
 }

@@ -108,7 +108,7 @@ get_does s size outcome moment =
     }
 
 abbrev pub get_rule : NodeRule GetValue
-get_rule = record { step = λ g e. get_does (client_does g.last e g.client) g.size g.outcome e.moment; outcome = λ g. g.outcome; is_server = false }
+get_rule = record { step = λ g e. get_does (client_does g.last e g.client) g.size g.outcome e.moment; outcome = λ g. g.outcome; is_server = false; more_at_once = 0 }
 
 -- at the beginning, by a new client whose verifier is this moment and whose first call has the number 1, the file is opened and read
 abbrev pub get_begins : ℕ → ℕ → List ℕ → ClientStep

@@ -99,7 +99,7 @@ abbrev pub put_does : ClientStep → Progress → ℕ → NodeStep PutValue
 put_does s p moment = record { state = put_after s p (Some moment); sends = records_of s; text = [] }
 
 abbrev pub put_rule : NodeRule PutValue
-put_rule = record { step = λ p e. put_does (client_does p.last e p.client) p.progress e.moment; outcome = λ p. put_outcome p.progress; is_server = false }
+put_rule = record { step = λ p e. put_does (client_does p.last e p.client) p.progress e.moment; outcome = λ p. put_outcome p.progress; is_server = false; more_at_once = 0 }
 
 -- all that is asked at the beginning, by a new client whose verifier is this moment and whose first call has the number 1; it is given no moment then
 abbrev pub put_begins : ℕ → ℕ → List ℕ → List ℕ → ClientStep

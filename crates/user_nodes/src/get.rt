@@ -177,13 +177,13 @@ impl Node for GetNode {
 
     ghost excuses = { λ _ _. false };
 
-    ghost stands = { λ _ _ _. ⊤ };
+    ghost keeps = { λ _ _ _ _. ⊤ };
 
     ghost leaves = { LeavesNothing };
 
-    ghost stood = { λ _ _ _ _. tt };
+    ghost stood = { λ _ _ _ _ _ _. tt };
 
-    ghost stepped = { λ _ _ _ _ _ _ _. tt };
+    ghost turned = { λ _ _ _ _ _. tt };
 
     /// The bytes that came are written before the next are asked for.
     fn take<K: Sink, D: Disk>(
@@ -210,12 +210,25 @@ impl Node for GetNode {
         Ok(false)
     }
 
+    fn has_waiting(&self) -> bool {
+        false
+    }
+
+    /// It remembers nothing.
+    fn settle<D: Disk>(&mut self, _disk: &mut D, _spare: &mut D) -> Result<(), Failed> {
+        Ok(())
+    }
+
     fn outcome(&self) -> Option<Result<(), FailCause>> {
         self.outcome
     }
 
     fn is_server(&self) -> bool {
         false
+    }
+
+    fn more_at_once(&self) -> u32 {
+        0
     }
 }
 

@@ -135,13 +135,13 @@ impl Node for PutNode {
 
     ghost excuses = { λ _ _. false };
 
-    ghost stands = { λ _ _ _. ⊤ };
+    ghost keeps = { λ _ _ _ _. ⊤ };
 
     ghost leaves = { LeavesNothing };
 
-    ghost stood = { λ _ _ _ _. tt };
+    ghost stood = { λ _ _ _ _ _ _. tt };
 
-    ghost stepped = { λ _ _ _ _ _ _ _. tt };
+    ghost turned = { λ _ _ _ _ _. tt };
 
     fn take<K: Sink, D: Disk>(
         &mut self,
@@ -161,12 +161,25 @@ impl Node for PutNode {
         Ok(false)
     }
 
+    fn has_waiting(&self) -> bool {
+        false
+    }
+
+    /// It remembers nothing.
+    fn settle<D: Disk>(&mut self, _disk: &mut D, _spare: &mut D) -> Result<(), Failed> {
+        Ok(())
+    }
+
     fn outcome(&self) -> Option<Result<(), FailCause>> {
         self.progress.outcome()
     }
 
     fn is_server(&self) -> bool {
         false
+    }
+
+    fn more_at_once(&self) -> u32 {
+        0
     }
 }
 

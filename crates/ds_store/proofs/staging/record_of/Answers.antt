@@ -5,7 +5,7 @@ use Rattle.ds_procedures.specs.CodePlans.{plain_effect}
 use Rattle.ds_log.specs.Durable.{applied_bytes, durable}
 use Rattle.ds_changes.specs.Logging.{Logs}
 use Rattle.ds_store.proofs.Keeping.{record_made}
-use Rattle.ds_store.proofs.kept.record_of.Goals as goal
+use Rattle.ds_store.proofs.staging.record_of.Goals as goal
 
 pub returns-in_ok-new-in-Some : goal.returns-in_ok-new-in-Some
 returns-in_ok-new-in-Some c =
