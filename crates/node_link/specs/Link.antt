@@ -28,7 +28,7 @@ is_record Closed = false
 -- What asking for a record that has come already did: the first of those to come was one, and came; or none is taken.
 abbrev pub GivesReady : Option (List Arrival) → Option (NodeId × List ℕ) → Option (List Arrival) → Type 0
 GivesReady None result new = new ≡ None
-GivesReady (Some []) (Some record) new = ⊥
+GivesReady (Some []) (Some (from, bytes)) new = ⊥
 GivesReady (Some (first ∷ rest)) (Some (from, bytes)) new = (first ≡ Record from bytes) × (new ≡ Some rest)
 GivesReady (Some coming) None new = new ≡ Some coming
 

@@ -1,5 +1,5 @@
 -- The link of a node over a network: which node is on which connection, when a call is given up, and when time passes.
-use Rattle.std.specs.Prelude.{⊤, ◌≡◌, ◌⊎◌, ℕ, min, Bool, true, false, List, Option, Some, None, Result, Ok, Err}
+use Rattle.std.specs.Prelude.{⊤, ◌≡◌, ◌⊎◌, ℕ, ◌≤◌, min, Bool, true, false, List, Option, Some, None, Result, Ok, Err}
 use Rattle.ff_xdr.specs.declared.error.NoMemory.{NoMemory}
 use Rattle.rpc_record.specs.Calls.{word_of}
 use Rattle.rpc_record.specs.declared.stream.Failed.{Failed}
@@ -98,12 +98,12 @@ GivesArrival old result new =
 -- ---- what has come already
 
 -- What asking for a record did that came already, where it is open: one came, of the node whose connection brought it; or none did, or memory was
--- wanted for it.
+-- wanted for it; or a call is to be given up first.
 abbrev pub IsReady : LinkState → ServingState → Option (NodeId × List ℕ) → ServingState → LinkState → Type 0
 IsReady old s (Some (from, bytes)) s' new =
     ((number : ℕ) × GivesRecord 0 s (Ok (Some (number, bytes))) s' × IsFrom number old.callees from)
     × DoesMove (RecordComesIn s'.time from (replied_number bytes)) old.calls new.calls × (new.silence ≡ behind_arrival s'.time old.silence)
-IsReady old s None s' new = (GivesRecord 0 s (Ok None) s' ⊎ ((e : Failed) × GivesRecord 0 s (Err e) s')) × KeepsCalls old new
+IsReady old s None s' new = (((s' ≡ s) × (earliest s.time old.calls ≤ s.time)) ⊎ GivesRecord 0 s (Ok None) s' ⊎ ((e : Failed) × GivesRecord 0 s (Err e) s')) × KeepsCalls old new
 
 abbrev pub GivesOneReady : LinkState → Option (NodeId × List ℕ) → LinkState → Type 0
 GivesOneReady old result new =

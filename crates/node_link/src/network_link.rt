@@ -263,7 +263,7 @@ impl<H: Host + Drop> Link for NodeLink<H> {
         }
     }
 
-    /// A record that came with what was read last.
+    /// A record that came with what was read last; none where a call is to be given up first.
     fn ready(&mut self) -> Option<(NodeId, Data)>
         ensures opened { self.new.opened ≡ self.old.opened }
         ensures faults { self.new.faults ≡ self.old.faults }
@@ -273,13 +273,17 @@ impl<H: Host + Drop> Link for NodeLink<H> {
         let Some(server) = &mut self.server else {
             return None;
         };
+        let now = server.time();
+        if self.calls.earliest(now) <= now {
+            return None;
+        }
         let Ok(Some((number, bytes))) = server.next(0) else {
             return None;
         };
-        let now = server.time();
+        let came = server.time();
         let from = self.callees.from(number);
-        self.calls.come_in(from, replied_number(bytes.bytes()), now);
-        self.silence = self.silence.behind_arrival(now);
+        self.calls.come_in(from, replied_number(bytes.bytes()), came);
+        self.silence = self.silence.behind_arrival(came);
         Some((from, bytes))
     }
 

@@ -114,7 +114,6 @@ impl Link for SureLink {
         ensures told { GivesReady (Some self.old.coming) result (Some self.new.coming) }
         ensures opened { self.new.opened ≡ self.old.opened }
         ensures sent { Some self.new.sent ≡ Some self.old.sent }
-        ensures faults { 0 ≡ 0 }
         ensures none { result ≡ None }
     {
         None
