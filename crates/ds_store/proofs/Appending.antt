@@ -1,10 +1,8 @@
 -- A record is appended, with which the log says another server, and the log is renewed behind it.
-use Rattle.std.proofs.Common.{◌≡◌, ℕ, ◌+◌, List, [], ◌∷◌, ◌++◌, Option, Some, None, Result, Ok, Err, ◌⊎◌, inl, inr, refl, sym, ap, subst, ◌∙◌}
-use Rattle.rpc_record.specs.declared.stream.Failed.{Failed}
+use Rattle.std.proofs.Common.{◌≡◌, ℕ, List, [], ◌∷◌, ◌++◌, Option, Some, Result, Ok, Err, ◌⊎◌, inl, inr, ap, subst, ◌∙◌}
 use Rattle.cluster_model.specs.Server.{ServerState}
 use Rattle.store_disk.specs.Disks.{DiskLife, AllImages, LeavesSince}
-use Rattle.store_disk.proofs.Leaving.{Told, since_both, since_same, since_none, since_weaker, told_weaker}
-use Rattle.twin_log.specs.declared.side.Side.{Side}
+use Rattle.store_disk.proofs.Leaving.{Told, since_both, since_same, since_weaker}
 use Rattle.twin_log.specs.Twins.{Has, at_side, opposite}
 use Rattle.twin_log.specs.KeptLogs.{IsFileOf, IsPassed, KeptLogState, StandsPassed, next_generation}
 use Rattle.twin_log.specs.LogCalls.{OnSide}
@@ -13,7 +11,7 @@ use Rattle.ds_log.specs.Durable.{applied_bytes, durable, played, unbooted}
 use Rattle.ds_log.proofs.Plays.{played_push}
 use Rattle.ds_store.specs.declared.fault.StoreFault.{StoreFault}
 use Rattle.ds_store.specs.Kept.{IsCrashSafe, IsLogOf, LeavesBoth, LogsStep, SaysEither, SaysServer, said_by}
-use Rattle.ds_store.specs.Renewals.{Renews, SaysRenewed}
+use Rattle.ds_store.specs.Renewals.{SaysRenewed}
 use Rattle.ds_store.proofs.BothDisks.{both_since, passed_images, says_now, says_renewed, says_together}
 
 -- ---- nothing is appended

@@ -1,18 +1,16 @@
 -- What two disks leave together, by what each of them leaves.
-use Rattle.std.proofs.Common.{◌≡◌, ℕ, ◌+◌, ◌<◌, List, Option, Some, None, Result, Ok, Err, ◌⊎◌, inl, inr, refl, sym, ap, subst, ◌∙◌, arith}
-use Rattle.rpc_record.specs.declared.stream.Failed.{Failed}
+use Rattle.std.proofs.Common.{◌≡◌, ℕ, ◌+◌, List, Option, Some, None, Ok, sym, ap, subst, ◌∙◌, arith}
 use Rattle.cluster_model.specs.Server.{ServerState}
 use Rattle.store_disk.specs.Disks.{DiskLife, AllImages, LeavesNow, LeavesSince}
-use Rattle.store_disk.proofs.Leaving.{Told, since_both, since_same, since_new, since_none, since_weaker}
+use Rattle.store_disk.proofs.Leaving.{Told, since_new, since_weaker}
 use Rattle.store_disk.proofs.Images.{images_of}
 use Rattle.twin_log.specs.declared.side.Side.{Side}
 use Rattle.twin_log.specs.declared.side.Side.TheVariants as side
 use Rattle.twin_log.specs.Twins.{TwinLog, New, Has, Bad, at_side, opposite, twin_log}
-use Rattle.twin_log.specs.KeptLogs.{HoldsFile, HoldsSaid, IsFileOf, IsGenerationBelow, IsPassed, KeptLogState, StandsPassed, StandsTwin, generation_said, next_generation}
-use Rattle.twin_log.specs.LogCalls.{OnSide}
-use Rattle.twin_log.proofs.Sides.{at_twice, file_passed, own_same, says_new, says_own}
+use Rattle.twin_log.specs.KeptLogs.{HoldsSaid, IsFileOf, IsGenerationBelow, IsPassed, KeptLogState, StandsPassed, StandsTwin, generation_said, next_generation}
+use Rattle.twin_log.proofs.Sides.{at_twice, file_passed, says_new, says_own}
 use Rattle.ds_log.specs.Durable.{durable, played, unbooted}
-use Rattle.ds_store.specs.Kept.{IsLogOf, KeepsServer, LeavesBoth, LeavesBothNow, SaysServer, log_says, said_by}
+use Rattle.ds_store.specs.Kept.{IsLogOf, LeavesBoth, LeavesBothNow, SaysServer, said_by}
 use Rattle.ds_store.specs.Renewals.{SaysRenewed}
 
 -- ---- each file by itself

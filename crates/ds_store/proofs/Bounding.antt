@@ -1,5 +1,5 @@
 -- How many bytes a log has behind a renewal, and behind a call.
-use Rattle.std.proofs.Common.{◌≡◌, ℕ, ◌+◌, ◌*◌, ◌≤◌, ◌==◌, Bool, true, false, ◌&&◌, ltb, if◌then◌else◌, List, [], ◌∷◌, ◌++◌, length, map, Option, Some, None, OnOk, Result, Ok, Err, ◌⊎◌, inl, inr, refl, sym, ap, subst, ◌∙◌, arith}
+use Rattle.std.proofs.Common.{◌≡◌, ℕ, ◌+◌, ◌*◌, ◌≤◌, ◌==◌, Bool, true, false, ◌&&◌, ltb, if◌then◌else◌, List, [], ◌∷◌, length, Option, Some, None, OnOk, Result, Ok, Err, ◌⊎◌, inl, inr, refl, sym, ap, subst, ◌∙◌, arith}
 use Rattle.std.proofs.lemmas.Bool.{le-ltb, lt-ltb, ltb-false}
 use Rattle.cluster_model.specs.Server.{ServerState, Effect, server_after}
 use Rattle.store_disk.specs.Disks.{DiskLife}
@@ -7,9 +7,9 @@ use Rattle.gate_log.specs.Logs.{log_size}
 use Rattle.gate_log.specs.Appends.{HoldsLog}
 use Rattle.twin_log.specs.declared.side.Side.{Side}
 use Rattle.twin_log.specs.declared.side.Side.TheVariants as side
-use Rattle.twin_log.specs.Twins.{TwinLog, Has, at_side, generation_body, generation_in}
+use Rattle.twin_log.specs.Twins.{Has, at_side, generation_body, generation_in}
 use Rattle.twin_log.specs.KeptLogs.{HoldsFile, KeptLogState, SaysLog, StandsTwin, has_next, has_waiting}
-use Rattle.twin_log.specs.LogCalls.{HasRenewed, renewed_place, sealed_log, staged_log}
+use Rattle.twin_log.specs.LogCalls.{HasRenewed, renewed_place, sealed_log}
 use Rattle.twin_log.proofs.Files.{length_generation}
 use Rattle.ds_files.specs.Decisions.{CanDo}
 use Rattle.ds_log.specs.Bodies.{Logged}
@@ -178,8 +178,8 @@ settled_same true s old new none h = absurd (cc (none))
 settled_same false s old new none h = h
 
 module _ (before after : ServerState) (old mid new : KeptLogState) (one : WaitsForOne before old after mid) (settles : SettlesLog after mid new) where
-  appended : (disk spare : DiskLife) (x : Unit {0}) {E : Type 0} → old.at ≡ old.end → IsWithinThen {E = E} after mid (Ok x) new (Some disk) (Some spare) → (new ≡ old) ⊎ AppendsCall before after old new
-  appended disk spare x none within = by_one one
+  appended : (E : Type 0) (disk spare : DiskLife) (x : Unit {0}) → old.at ≡ old.end → IsWithinThen {E = E} after mid (Ok x) new (Some disk) (Some spare) → (new ≡ old) ⊎ AppendsCall before after old new
+  appended E disk spare x none within = by_one one
     where
       by_one : WaitsForOne before old after mid → (new ≡ old) ⊎ AppendsCall before after old new
       by_one (inl same) = inl (settled_same (has_waiting mid) after mid new (ap has_waiting same ∙ not_waiting old none) settles ∙ same)
@@ -188,11 +188,11 @@ module _ (before after : ServerState) (old mid new : KeptLogState) (one : WaitsF
           inr (record { body = body; made = made; settles = subst (λ (l : KeptLogState). SettlesLog after l new) is settles; within = within waits })
 
   -- it appended nothing, or its record
-  pub call_bounded : {T E F : Type 0} (P : List ℕ → List ℕ → Type 0) (disk spare disk' spare' : Option DiskLife) → IsLogOf before old disk spare → LeavesBoth disk spare disk' spare' P → (x : Unit {0}) → IsWithinThen {E = F} after mid (Ok x) new disk' spare'
+  pub call_bounded : (F : Type 0) {T E : Type 0} (P : List ℕ → List ℕ → Type 0) (disk spare disk' spare' : Option DiskLife) → IsLogOf before old disk spare → LeavesBoth disk spare disk' spare' P → (x : Unit {0}) → IsWithinThen {E = F} after mid (Ok x) new disk' spare'
       → (result : Result T E) → IsLogBounded before old result after new disk' spare'
-  call_bounded P disk spare disk' spare' keeps since x within (Err e) = tt
-  call_bounded P disk spare None spare' keeps since x within (Ok y) = tt
-  call_bounded P disk spare (Some d') None keeps since x within (Ok y) = tt
-  call_bounded P None spare (Some d') (Some s') keeps since x within (Ok y) = absurd (cc (since))
-  call_bounded P (Some d) None (Some d') (Some s') keeps since x within (Ok y) = absurd (cc (since))
-  call_bounded P (Some d) (Some s) (Some d') (Some s') keeps since x within (Ok y) = appended d' s' x keeps.stands.none_waits within
+  call_bounded F P disk spare disk' spare' keeps since x within (Err e) = tt
+  call_bounded F P disk spare None spare' keeps since x within (Ok y) = tt
+  call_bounded F P disk spare (Some d') None keeps since x within (Ok y) = tt
+  call_bounded F P None spare (Some d') (Some s') keeps since x within (Ok y) = absurd (cc (since))
+  call_bounded F P (Some d) None (Some d') (Some s') keeps since x within (Ok y) = absurd (cc (since))
+  call_bounded F P (Some d) (Some s) (Some d') (Some s') keeps since x within (Ok y) = appended F d' s' x keeps.stands.none_waits within

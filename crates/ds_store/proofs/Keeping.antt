@@ -1,5 +1,5 @@
 -- What a call does to a server that is kept.
-use Rattle.std.proofs.Common.{◌≡◌, ℕ, ◌<◌, arith, List, Option, Some, None, Result, Ok, Err, inl, inr, refl, sym, ap, subst, ◌∙◌}
+use Rattle.std.proofs.Common.{◌≡◌, ℕ, ◌<◌, arith, List, length, OnOk, Option, Some, None, Result, Ok, Err, inl, inr, refl, sym, ap, subst, ◌∙◌}
 use Rattle.std.specs.Prelude.{slice_get}
 use Rattle.cluster_model.specs.File.{StoredFile}
 use Rattle.cluster_model.specs.Server.{ServerState, Effect, NoEffect, NewFile, OnFile, on_file, server_after}
@@ -14,9 +14,10 @@ use Rattle.ds_changes.proofs.Keeping.{same_boot, steady_after}
 use Rattle.ds_changes.proofs.Lasting.{body_logged, nothing_logged}
 use Rattle.ds_store.specs.declared.fault.StoreFault.{StoreFault}
 use Rattle.ds_store.specs.declared.fault.StoreFault.TheVariants.{Disk, Broken, NoMemory}
-use Rattle.ds_store.specs.Kept.{Becomes, IsCrashSafe, IsLogOf, IsRecordOf, KeptState, LogsStep, SaysEither, SaysServer, SpendsBy, StandsOnDisks, StepsSafely, TakesSince, WaitsSince}
+use Rattle.ds_store.specs.Kept.{Becomes, IsCrashSafe, IsLogOf, IsRecordOf, KeptState, LogsStep, SaysEither, SaysServer, SpendsBy, StandsOnDisks, StepsSafely, TakesSince, WaitsForOne, WaitsSince}
 use Rattle.ds_store.proofs.Numbers.{number_after}
 use Rattle.twin_log.specs.KeptLogs.{KeptLogState}
+use Rattle.twin_log.specs.LogCalls.{staged_log}
 use Rattle.ds_store.proofs.BothDisks.{both_weaker, says_now}
 use Rattle.ds_store.proofs.Waiting.{settled_now, waits_as, waits_from}
 
@@ -118,16 +119,16 @@ module _ (after : ServerState) (old : KeptState) (disk spare : Option DiskLife) 
   }
 
   stands_as : {T : Type 0} (r : Result T StoreFault) (new : KeptState) (disk' spare' : Option DiskLife) → Becomes after old disk spare r new disk' spare' → (e : StoreFault) → r ≡ Err e → StandsOnDisks new disk' spare'
-  stands_as (Ok x) new disk' spare' becomes e is = absurd (cc (is))
-  stands_as (Err Disk) new disk' spare' becomes e is = λ none. absurd (cc (becomes, none))
-  stands_as (Err Broken) new disk' spare' becomes e is = absurd becomes
+  stands_as (Ok x) new disk' spare' its e is = absurd (cc (is))
+  stands_as (Err Disk) new disk' spare' its e is = λ none. absurd (cc (its, none))
+  stands_as (Err Broken) new disk' spare' its e is = absurd its
   stands_as (Err NoMemory) new disk' spare' (inl spent) e is = λ none. absurd (cc (spent, none))
   stands_as (Err NoMemory) new disk' spare' (inr same) e is =
       subst (λ (k : KeptState). StandsOnDisks k disk' spare') (sym same.0)
-      (subst (λ (t : Option DiskLife). StandsOnDisks old t spare') (sym same.1) (subst (λ (t : Option DiskLife). StandsOnDisks old disk t) (sym same.2) stands))
+      (subst (λ (t : Option DiskLife). StandsOnDisks old t spare') (sym same.1.0) (subst (λ (t : Option DiskLife). StandsOnDisks old disk t) (sym same.1.1) stands))
 
   pub stands_not_taken : {T : Type 0} (result : Result T StoreFault) (e : StoreFault) (new : KeptState) (disk' spare' : Option DiskLife) → result ≡ Err e → Becomes after old disk spare result new disk' spare' → StandsOnDisks new disk' spare'
-  stands_not_taken result e new disk' spare' is becomes = stands_as result new disk' spare' becomes e is
+  stands_not_taken result e new disk' spare' is its = stands_as result new disk' spare' its e is
 
   -- it was taken, and this is how what waits was settled
   module _ {T : Type 0} (x : T) (mid : KeptState) (disk1 spare1 : Option DiskLife) (taken : Becomes after old disk spare (Ok x) mid disk1 spare1) (takes : TakesSince {T = T} old.server disk spare (Ok x) mid disk1 spare1)
@@ -149,9 +150,9 @@ module _ (after : ServerState) (old : KeptState) (disk spare : Option DiskLife) 
     answered_by (Ok y) spent (Ok u) done failed = (server ∙ taken.0, spent)
     answered_by (Ok y) spent (Err e) done failed = absurd (cc (failed e refl))
     answered_by (Err e) spent (Ok u) done failed = absurd (cc (done u refl))
-    answered_by (Err e) spent (Err f) done failed = by_fault f (subst (λ (r : Result (Unit {0}) StoreFault). SpendsBy r new.spent) (failed f refl) spent)
+    answered_by {U = U} (Err e) spent (Err f) done failed = by_fault f (subst (λ (r : Result (Unit {0}) StoreFault). SpendsBy r new.spent) (failed f refl) spent)
       where
-        by_fault : (g : StoreFault) → SpendsBy {T = Unit {0}} (Err g) new.spent → Becomes {T = _} after old disk spare (Err g) new disk2 spare2
+        by_fault : (g : StoreFault) → SpendsBy {T = Unit {0}} (Err g) new.spent → Becomes {T = U} after old disk spare (Err g) new disk2 spare2
         by_fault Disk s = s
         by_fault Broken s = absurd s
         by_fault NoMemory s = inl s
@@ -167,3 +168,8 @@ module _ (after : ServerState) (old : KeptState) (disk spare : Option DiskLife) 
 
     pub stands_then : StandsOnDisks new disk2 spare2
     stands_then = stands_by settled refl spends
+
+-- one record more waits, where it was written
+pub one_on : (before after : ServerState) (old new : KeptLogState) (body : List ℕ) (result : Result (Unit {0}) StoreFault) → applied_bytes (durable before) body ≡ Some (durable after) → OnOk result (new ≡ staged_log old (length body)) → OnOk result (WaitsForOne before old after new)
+one_on before after old new body (Ok x) made is = inr (body, made, is)
+one_on before after old new body (Err e) made is = tt

@@ -1,5 +1,5 @@
 -- Records that wait become part of the log, and it is renewed behind them.
-use Rattle.std.proofs.Common.{◌≡◌, ◌≢◌, ℕ, suc, ◌+◌, ◌<◌, true, false, List, [], ◌∷◌, ◌++◌, Option, Some, None, Result, Ok, Err, ◌⊎◌, inl, inr, refl, sym, ap, subst, ◌∙◌, arith, append-nil}
+use Rattle.std.proofs.Common.{◌≡◌, ◌≢◌, ℕ, zero, suc, ◌+◌, true, false, List, [], ◌∷◌, ◌++◌, Option, Some, None, Result, Ok, Err, ◌⊎◌, inl, refl, sym, subst, ◌∙◌, arith, append-nil}
 use Rattle.std.proofs.lemmas.Bool.{lt-ltb}
 use Rattle.rpc_record.specs.declared.stream.Failed.{Failed}
 use Rattle.cluster_model.specs.Server.{ServerState}
@@ -12,12 +12,11 @@ use Rattle.twin_log.specs.declared.side.Side.TheVariants as side
 use Rattle.twin_log.specs.Twins.{TwinLog, Has, at_side, opposite}
 use Rattle.twin_log.specs.KeptLogs.{IsFileOf, IsPassed, KeptLogState, StandsTwin, WaitsTwin, has_waiting, next_generation}
 use Rattle.twin_log.specs.LogCalls.{OnSide, SealsTwin, TellAsBefore}
-use Rattle.twin_log.proofs.Sides.{tell_both}
 use Rattle.ds_log.specs.Durable.{durable, played, unbooted}
 use Rattle.ds_store.specs.Kept.{IsLogOf, LeavesBoth, LogsStep, SaysEither, SaysServer, StandsOrWaits, WaitsServer, WaitsSince}
-use Rattle.ds_store.specs.Renewals.{Renews, SaysRenewed}
+use Rattle.ds_store.specs.Renewals.{HasRenewedSize, Renews, SaysRenewed}
 use Rattle.ds_store.proofs.BothDisks.{both_weaker, log_of}
-use Rattle.ds_store.proofs.Appending.{PassedOrRenewed, WithOrWithout, append_since, renew_since}
+use Rattle.ds_store.proofs.Appending.{append_since, renew_since}
 use Rattle.ds_store.proofs.Waiting.{as_waits, generation_is, passed_then, settled_now, some_waits, still_none}
 
 -- disks of which one tells nothing hold whatever log is asked
@@ -45,7 +44,7 @@ module _ (settled s : ServerState) (log : KeptLogState) where
   none_told (Some now) life P (Some b) is leaves all waiting stages none = sizes (log_size waiting) stages.at_is
     where
       sizes : (n : ℕ) → log.at ≡ log.end + n → n ≡ 0
-      sizes 0 at = refl
+      sizes zero at = refl
       sizes (suc n) at = let more = lt-ltb log.end log.at (omega (arith, at)) in absurd (cc (more, none))
 
   -- one of two disks that tell does
@@ -73,6 +72,13 @@ module _ (settled s : ServerState) (log : KeptLogState) where
   logs_none (Some b) (Some bs) disk spare result w none = record {
     since = both_weaker (SaysServer settled) (SaysEither settled s) (λ left left_spare says. inl says) (Some b) (Some bs) disk spare (settled_now settled s log (Some b) (Some bs) disk spare w);
     kept = λ x ok. settles_none b bs disk spare w none;
+  }
+
+  -- nothing is settled
+  pub logs_not : {E : Type 0} (began began_spare disk spare : Option DiskLife) (e : E) → WaitsSince settled s log began began_spare disk spare → LogsStep settled s began began_spare (Err e) log disk spare
+  logs_not began began_spare disk spare e w = record {
+    since = both_weaker (SaysServer settled) (SaysEither settled s) (λ left left_spare says. inl says) began began_spare disk spare (settled_now settled s log began began_spare disk spare w);
+    kept = λ x ok. absurd (cc (ok));
   }
 
   -- ---- records that wait become part of the log
@@ -143,3 +149,12 @@ module _ (settled s : ServerState) (log : KeptLogState) where
       logs_renewed None began_spare w = untold_disk began_spare renewal log2 disk2 spare2 (still_none disk1 disk2 (still_none disk disk1 w tells.0) tells2.0)
       logs_renewed (Some b) None w = untold_spare b renewal log2 disk2 spare2 (still_none spare1 spare2 (still_none spare spare1 w tells.1) tells2.1)
       logs_renewed (Some b) (Some bs) w = renew_step (Some b) (Some bs) w x ok side generation renewal log2 disk2 spare2 renews
+
+      pub size_renewed : (began began_spare : Option DiskLife) → WaitsSince settled s log began began_spare disk spare → (y : Unit {0}) → renewal ≡ Ok y → HasRenewedSize s log2 disk2 spare2
+      size_renewed None began_spare w y done = subst (λ (t : Option DiskLife). HasRenewedSize s log2 t spare2) (sym (still_none disk1 disk2 (still_none disk disk1 w tells.0) tells2.0)) tt
+      size_renewed (Some b) None w y done = subst (HasRenewedSize s log2 disk2) (sym (still_none spare1 spare2 (still_none spare spare1 w tells.1) tells2.1)) (no_size disk2)
+        where
+          no_size : (t : Option DiskLife) → HasRenewedSize s log2 t None
+          no_size None = tt
+          no_size (Some life) = tt
+      size_renewed (Some b) (Some bs) w y done = (renewed (Some b) (Some bs) w x ok side generation renewal log2 disk2 spare2 renews).size y done

@@ -2,13 +2,12 @@
 use Rattle.std.proofs.Common.{◌≡◌, ℕ, ◌+◌, ◌<◌, List, [], ◌∷◌, ◌++◌, length, Option, Some, None, OnOk, Result, Ok, Err, ◌⊎◌, inl, inr, refl, sym, ap, subst, ◌∙◌, arith}
 use Rattle.std.proofs.lemmas.List.{append-nil, append_assoc}
 use Rattle.std.proofs.lemmas.Option.{same_Some}
-use Rattle.ff_xdr.specs.declared.error.NoMemory.{NoMemory}
 use Rattle.rpc_record.specs.declared.stream.Failed.{Failed}
 use Rattle.cluster_model.specs.Server.{ServerState}
 use Rattle.store_disk.specs.Disks.{DiskLife}
 use Rattle.store_disk.proofs.Leaving.{since_both, since_weaker}
 use Rattle.twin_log.specs.declared.side.Side.{Side}
-use Rattle.twin_log.specs.Twins.{TwinLog, Has, at_side, opposite}
+use Rattle.twin_log.specs.Twins.{TwinLog, at_side, opposite}
 use Rattle.twin_log.specs.KeptLogs.{IsFileOf, IsPassed, KeptLogState, RenewsTwin, StandsTwin, next_generation}
 use Rattle.twin_log.specs.LogCalls.{BeginsRenewal, EndsRenewal, HasRenewed, OnSide, PutsMore, TellAsBefore, TellsAsBefore, renewed_place}
 use Rattle.twin_log.proofs.Sides.{renews_now}

@@ -1,15 +1,14 @@
 -- Records that wait behind a server's log.
-use Rattle.std.proofs.Common.{◌≡◌, ◌≢◌, ℕ, ◌<◌, true, false, ltb, List, [], ◌∷◌, ◌++◌, Option, Some, None, Result, Ok, Err, refl, sym, ap, subst, ◌∙◌, arith, append_assoc, append-nil}
-use Rattle.std.proofs.lemmas.Bool.{lt-ltb, ltb-true}
+use Rattle.std.proofs.Common.{◌≡◌, ◌≢◌, ℕ, ◌<◌, true, List, [], ◌∷◌, ◌++◌, Option, Some, None, Result, Ok, Err, refl, sym, ap, subst, ◌∙◌, arith, append_assoc, append-nil}
+use Rattle.std.proofs.lemmas.Bool.{ltb-true}
 use Rattle.rpc_record.specs.declared.stream.Failed.{Failed}
 use Rattle.cluster_model.specs.Server.{ServerState}
 use Rattle.store_disk.specs.Disks.{DiskLife, LeavesSince}
 use Rattle.store_disk.proofs.Leaving.{since_both, since_none, since_same}
 use Rattle.gate_log.specs.Logs.{log_size}
-use Rattle.gate_log.specs.Staging.{Stages}
 use Rattle.twin_log.specs.declared.side.Side.{Side}
 use Rattle.twin_log.specs.Twins.{Has, at_side, opposite}
-use Rattle.twin_log.specs.KeptLogs.{IsFileOf, IsPassed, KeptLogState, StandsPassed, StandsTwin, WaitsTwin, has_waiting}
+use Rattle.twin_log.specs.KeptLogs.{IsFileOf, IsPassed, KeptLogState, StandsPassed, WaitsTwin, has_waiting}
 use Rattle.twin_log.specs.LogCalls.{OnSide, TellAsBefore, TellsAsBefore, WaitsMore}
 use Rattle.twin_log.proofs.Sides.{waits_none}
 use Rattle.ds_log.specs.Durable.{applied_bytes, durable, played, unbooted}

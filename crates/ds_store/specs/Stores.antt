@@ -1,5 +1,5 @@
 -- A store: a data server together with the two disks that have its log.
-use Rattle.std.specs.Prelude.{◌≡◌, ℕ, Option, Result, Ok, Err}
+use Rattle.std.specs.Prelude.{ℕ, Option, Result, Ok, Err}
 use Rattle.store_disk.specs.Disks.{DiskLife}
 use Rattle.twin_log.specs.LogCalls.{CountsTwins}
 use Rattle.ds_store.specs.declared.fault.OpenCause.{OpenCause}

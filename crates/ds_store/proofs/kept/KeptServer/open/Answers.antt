@@ -34,8 +34,10 @@ returns-clause-crash g c =
     let crash =
     at_told (λ (t u : Option DiskLife). HasLasting said log t u → LeavesBoth t u new new_spare (SaysBooting said.number (Ok said))) mid mid_spare (g.D.Disk.told c.read_log.new.disk) (g.D.Disk.told c.read_log.new.spare)
     c.read_log.ensures.same c.read_log.ensures.same_spare c.begin_boot.ensures.crash in
+    let tells =
+    at_told (λ (t u : Option DiskLife). TellAsBefore t u new new_spare) mid mid_spare (g.D.Disk.told c.read_log.new.disk) (g.D.Disk.told c.read_log.new.spare) c.read_log.ensures.same c.read_log.ensures.same_spare c.begin_boot.ensures.tells in
     boots_leaves c.args.number c.in_ok-log.log log mid mid_spare said c.in_ok-said.ensures.reads new new_spare (g.D.Disk.told c.args.disk.now) (g.D.Disk.told c.args.spare.now) c.in_ok-log.ensures.opens c.open.ensures.crash
-    c.open.ensures.crash_spare crash
+    c.open.ensures.crash_spare crash tells
 
 pub returns-clause-refused : goal.returns-clause-refused
 returns-clause-refused g c =
