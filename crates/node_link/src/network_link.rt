@@ -282,7 +282,8 @@ impl<H: Host + Drop> Link for NodeLink<H> {
         };
         let came = server.time();
         let from = self.callees.from(number);
-        self.calls.come_in(from, replied_number(bytes.bytes()), came);
+        self.calls
+            .come_in(from, replied_number(bytes.bytes()), came);
         self.silence = self.silence.behind_arrival(came);
         Some((from, bytes))
     }

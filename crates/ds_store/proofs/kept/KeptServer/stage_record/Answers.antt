@@ -18,6 +18,6 @@ returns-in_err-post-clause-waits g c = λ settled began began_spare w.
 pub returns-clause-becomes : goal.returns-clause-becomes
 returns-clause-becomes g c = (
   c.in_default.ensures.becomes.0
-  ∙ after_decision _ c.args.self.now (plain_effect c.in_ok-decision.decision.effect) c.args.message.now c.self.view_is c.in_ok-decision.ensures.effect_is,
+      ∙ after_decision _ c.args.self.now (plain_effect c.in_ok-decision.decision.effect) c.args.message.now c.self.view_is c.in_ok-decision.ensures.effect_is,
   c.in_default.ensures.becomes.1,
 )
