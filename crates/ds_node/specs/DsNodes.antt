@@ -12,13 +12,13 @@ use Rattle.ds_store.specs.declared.fault.OpenCause.{OpenCause}
 use Rattle.ds_store.specs.declared.fault.OpenCause.TheVariants as cause
 use Rattle.ds_store.specs.declared.fault.StoreFault.{StoreFault}
 use Rattle.ds_store.specs.declared.fault.StoreFault.TheVariants as store
-use Rattle.ds_store.specs.Kept.{KeptState, LeavesBothNow, SaysServer, SaysEither, StandsOnDisks}
+use Rattle.ds_store.specs.Kept.{KeptState, LeavesBothNow, SaysEither, WaitsSince}
 use Rattle.ds_store.specs.Opens.{LeavesOpened, OpensLog}
 use Rattle.ff_node.specs.declared.end.NodeEnd.{NodeEnd}
 use Rattle.ff_node.specs.declared.end.NodeEnd.TheVariants as ends
 use Rattle.ff_node.specs.declared.fault.EventFault.{EventFault}
 use Rattle.ff_node.specs.declared.fault.EventFault.TheVariants as event
-use Rattle.ff_node.specs.Nodes.{NodeEvent, NodeRule, SentRecords}
+use Rattle.ff_node.specs.Nodes.{NodeRule, SentRecords}
 use Rattle.ff_node.specs.Serve.{Beside, NodeRunsOn, end_of_link}
 use Rattle.rpc_record.specs.declared.stream.Failed.{Failed}
 use Rattle.rpc_record.specs.declared.stream.Failed.TheVariants as failed
@@ -94,7 +94,11 @@ pub record OpensNoLog (config : Config) (disk spare : Option DiskLife) (b : Besi
 
 -- The disks have the log of the settled server, and had since a moment; what the server is to remember since waits behind it.
 abbrev pub KeepsSettled : ServerState → KeptState → Option DiskLife → Option DiskLife → Type 0
-KeepsSettled settled k disk spare = (k.spent ≡ None) × ((began began_spare : Option DiskLife) × WaitsSince settled k.server k.log began began_spare disk spare)
+KeepsSettled settled k disk spare = (began began_spare : Option DiskLife) × WaitsSince settled k.server k.log began began_spare disk spare
+
+-- it is not to be opened again
+abbrev pub IsUnspent : KeptState → Type 0
+IsUnspent k = k.spent ≡ None
 
 abbrev pub ServesDisks : Config → Option DiskLife → Option DiskLife → Beside → NodeEnd → Beside → Option DiskLife → Option DiskLife → Type 0
 ServesDisks config disk spare b end b' disk' spare' = ServesLog config disk spare b end b' disk' spare' ⊎ OpensNoLog config disk spare b end b' disk' spare'

@@ -9,7 +9,7 @@ use Rattle.ds_node.specs.DsNodes.{KeepsSettled, server_leaves}
 
 -- while records wait, a crash leaves the settled server
 pub stood : (settled broken : ServerState) (k : KeptState) (disk spare : Option DiskLife) → KeepsSettled settled k disk spare → server_leaves settled broken disk spare
-stood settled broken k disk spare (unspent, (began, (began_spare, waits))) =
+stood settled broken k disk spare (began, (began_spare, waits)) =
     now_weaker (SaysServer settled) (SaysEither settled broken) (λ left left_spare says. inl says) disk spare
     (both_new (SaysServer settled) began began_spare disk spare (settled_now settled k.server k.log began began_spare disk spare waits))
 

@@ -7,7 +7,7 @@ ghost use Rattle.ds_files.specs.Records.{sent_to};
 ghost use Rattle.store_disk.specs.Disks.{both_faults};
 ghost use Rattle.ff_node.specs.Serve.{KeepsOr, disk_counted, sink_counted};
 ghost use Rattle.ds_node.specs.Standing.{stood, turned};
-ghost use Rattle.ds_node.specs.DsNodes.{KeepsSettled, event_fault, gives_none, server_excuses, server_leaves, server_rule, settle_fault};
+ghost use Rattle.ds_node.specs.DsNodes.{IsUnspent, KeepsSettled, event_fault, gives_none, server_excuses, server_leaves, server_rule, settle_fault};
 
 use cluster_model::{FailCause, NodeId, Outbox};
 use ds_files::Logging;
@@ -74,6 +74,8 @@ impl DsNode {
         disk: &mut D,
         spare: &mut D,
     ) -> Result<bool, EventFault>
+        requires { IsUnspent self.old }
+        ensures usable { OnOk result (IsUnspent self.new) }
         ensures state { OnOk result (self.new.server ≡ (outcome_of self.old.server bytes.now).server) }
         ensures sends { OnOk result (out.new.sends.items ≡ out.old.sends.items ++ sent_to from (outcome_of self.old.server bytes.now).reply) }
         ensures none { IfOk result (λ none. none ≡ gives_none (outcome_of self.old.server bytes.now).reply) }
@@ -97,6 +99,8 @@ impl Node for DsNode {
     ghost rule = { server_rule };
 
     ghost excuses = { λ n a. server_excuses n.server a };
+
+    ghost is_usable = { IsUnspent };
 
     ghost keeps = { KeepsSettled };
 

@@ -231,7 +231,7 @@ SendsAll sent records (Ok x) sent' = sent' ≡ behind sent records
 SendsAll sent records (Err e) sent' = (n : ℕ) × (n < length records) × (sent' ≡ behind sent (take n records))
 
 -- So many events were taken and done, of which none was answered yet: what is to be sent for them stands behind what was to be.
-pub record TakesAll {S : Type 0} (rule : NodeRule S) (s : S) (b : Beside) (sends : SentRecords) (n : ℕ) (s' : S) (b' : Beside) (sends' : SentRecords) : Type 0 where
+pub record TakesAll {S : Type 0} (rule : NodeRule S) (s : S) (b : Beside) (waiting : SentRecords) (n : ℕ) (s' : S) (b' : Beside) (waiting' : SentRecords) : Type 0 where
   pub taken : List NodeEvent
   pub count : length taken ≡ n
   pub came : TakesFront b.coming (map (λ (e : NodeEvent). e.arrival) taken) b'.coming
@@ -239,7 +239,7 @@ pub record TakesAll {S : Type 0} (rule : NodeRule S) (s : S) (b : Beside) (sends
   pub live : AreOpen taken
   pub going : HasNotEndedBefore rule s taken
   pub state : s' ≡ state_after rule s taken
-  pub sends : sends' ≡ sends ++ sends_over rule s taken
+  pub sends : waiting' ≡ waiting ++ sends_over rule s taken
   pub sent : b'.sent ≡ b.sent
   pub text : b'.held ≡ behind b.held (text_over rule s taken)
 

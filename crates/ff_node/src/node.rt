@@ -31,6 +31,9 @@ pub trait Node {
     /// The arrival is a call of which the node knows that it gets no answer, now or later.
     ghost excuses: { Self → Arrival → Bool };
 
+    /// No call of the node has failed.
+    ghost is_usable: { Self → Type 0 };
+
     /// The disks, the first and the spare, have what the node is to remember in this state; what it is to remember since then
     /// waits.
     ghost keeps: { State → Self → Option DiskLife → Option DiskLife → Type 0 };
@@ -53,6 +56,8 @@ pub trait Node {
         disk: &mut D,
         spare: &mut D,
     ) -> Result<bool, EventFault>
+        requires { is_usable self.old }
+        ensures usable { OnOk result (is_usable self.new) }
         ensures state { OnOk result (state self.new ≡ ((rule.step) (state self.old) (event_at moment arrival)).state) }
         ensures sends { OnOk result (out.new.sends.items ≡ out.old.sends.items ++ ((rule.step) (state self.old) (event_at moment arrival)).sends) }
         ensures excuses { IfOk result (λ is_excused. is_excused ≡ excuses self.old arrival) }
@@ -67,6 +72,8 @@ pub trait Node {
     /// Keeps on the disks what it is to remember, all of it: once this is done, what was put out may be sent. At an error the
     /// node is not to be used again.
     fn settle<D: Disk>(&mut self, disk: &mut D, spare: &mut D) -> Result<(), Failed>
+        requires { is_usable self.old }
+        ensures usable { OnOk result (is_usable self.new) }
         ensures state { OnOk result (state self.new ≡ state self.old) }
         ensures keeps { (settled : State) → keeps settled self.old (D.told disk.old) (D.told spare.old) → OnOk result (keeps (state self.new) self.new (D.told disk.new) (D.told spare.new)) }
         ensures broken { (settled : State) → keeps settled self.old (D.told disk.old) (D.told spare.old) → OnErr result (leaves settled (state self.old) (D.told disk.new) (D.told spare.new)) }

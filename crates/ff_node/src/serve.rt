@@ -61,6 +61,8 @@ fn take_event<N: Node, L: Link, K: Sink, D: Disk>(
     disk: &mut D,
     spare: &mut D,
 ) -> Result<(), EventFault>
+    requires { N.is_usable node.old }
+    ensures usable { OnOk result (N.is_usable node.new) }
     ensures state { OnOk result (N.state node.new ≡ ((N.rule.step) (N.state node.old) (event_at moment arrival)).state) }
     ensures sends { OnOk result (out.new.sends.items ≡ out.old.sends.items ++ ((N.rule.step) (N.state node.old) (event_at moment arrival)).sends) }
     ensures text { WritesFor (K.held sink.old) ((N.rule.step) (N.state node.old) (event_at moment arrival)).text result (K.held sink.new) }
@@ -99,6 +101,8 @@ fn take_ready<N: Node, L: Link, C: Clock, K: Sink, D: Disk>(
     disk: &mut D,
     spare: &mut D,
 ) -> Result<u32, EventFault>
+    requires { N.is_usable node.old }
+    ensures usable { OnOk result (N.is_usable node.new) }
     ensures takes { TakesMore N.rule (N.state node.old) (beside (L.coming link.old) (L.sent link.old) (C.coming clock.old) (C.moment clock.old) (K.held sink.old)) out.old.sends.items most result (N.state node.new) (beside (L.coming link.new) (L.sent link.new) (C.coming clock.new) (C.moment clock.new) (K.held sink.new)) out.new.sends.items }
     ensures writes { K.faults sink.new ≡ sink_counted result (K.faults sink.old) }
     ensures opened { L.opened link.new ≡ L.opened link.old }
@@ -133,7 +137,9 @@ fn take_together<N: Node, L: Link, C: Clock, K: Sink, D: Disk>(
     disk: &mut D,
     spare: &mut D,
 ) -> Result<u32, EventFault>
-    requires { more < 2 ^ 32 - 1 }
+    requires usable { N.is_usable node.old }
+    requires few { more < 2 ^ 32 - 1 }
+    ensures usable { OnOk result (N.is_usable node.new) }
     ensures does { DoesTogether N.rule (λ broken. N.keeps (N.state node.old) node.old (D.told disk.old) (D.told spare.old) → N.leaves (N.state node.old) broken (D.told disk.new) (D.told spare.new)) (N.state node.old) (event_at moment arrival) more (beside (L.coming link.old) (L.sent link.old) (C.coming clock.old) (C.moment clock.old) (K.held sink.old)) result (N.state node.new) (beside (L.coming link.new) (L.sent link.new) (C.coming clock.new) (C.moment clock.new) (K.held sink.new)) }
     ensures writes { K.faults sink.new ≡ sink_counted result (K.faults sink.old) }
     ensures opened { L.opened link.new ≡ L.opened link.old }
@@ -150,7 +156,7 @@ fn take_together<N: Node, L: Link, C: Clock, K: Sink, D: Disk>(
     if send_all(out.sends, link).is_err() {
         return Err(EventFault::NoMemory);
     }
-    Ok(1 + taken)
+    Ok(taken)
 }
 
 /// Takes what comes next at the clock's moment, with what came together with it, as far as so many arrivals may still be
@@ -166,8 +172,10 @@ fn take_turn<N: Node, L: Link, C: Clock, K: Sink, D: Disk>(
     spare: &mut D,
 ) -> Result<u32, NodeEnd>
     requires left { 0 < left }
+    requires usable { N.is_usable node.old }
     requires keeps { N.keeps (N.state node.old) node.old (D.told disk.old) (D.told spare.old) }
     ensures told { TakesTurn N.leaves N.rule (N.state node.old) left (beside (L.coming link.old) (L.sent link.old) (C.coming clock.old) (C.moment clock.old) (K.held sink.old)) result (N.state node.new) (beside (L.coming link.new) (L.sent link.new) (C.coming clock.new) (C.moment clock.new) (K.held sink.new)) (D.told disk.new) (D.told spare.new) }
+    ensures usable { OnOk result (N.is_usable node.new) }
     ensures keeps { OnOk result (N.keeps (N.state node.new) node.new (D.told disk.new) (D.told spare.new)) }
     ensures opened { L.opened link.new ≡ L.opened link.old }
     ensures faults { L.faults link.new ≡ turn_faults link_faults result (L.faults link.old) }
@@ -186,7 +194,9 @@ fn take_turn<N: Node, L: Link, C: Clock, K: Sink, D: Disk>(
     }
     let moment = clock.now();
     let more = node.more_at_once().min(left - 1);
-    match take_together(alloc, moment, arrival, more, node, link, clock, sink, disk, spare) {
+    match take_together(
+        alloc, moment, arrival, more, node, link, clock, sink, disk, spare,
+    ) {
         Ok(taken) => Ok(taken),
         Err(fault) => Err(NodeEnd::of_event(fault)),
     }
@@ -222,7 +232,8 @@ pub fn serve_node<N: Node, L: Link, C: Clock, K: Sink, D: Disk>(
     disk: &mut D,
     spare: &mut D,
 ) -> NodeEnd
-    requires { N.keeps (N.state node.old) node.old (D.told disk.old) (D.told spare.old) }
+    requires usable { N.is_usable node.old }
+    requires keeps { N.keeps (N.state node.old) node.old (D.told disk.old) (D.told spare.old) }
     ensures told { NodeRunsOn N.leaves N.rule first.items (N.state node.old) turns (beside (L.coming link.old) (L.sent link.old) (C.coming clock.old) (C.moment clock.old) (K.held sink.old)) result (N.state node.new) (beside (L.coming link.new) (L.sent link.new) (C.coming clock.new) (C.moment clock.new) (K.held sink.new)) (D.told disk.new) (D.told spare.new) }
     ensures opened { L.opened link.new ≡ L.opened link.old }
     ensures faults { L.faults link.new ≡ link_faults result (L.faults link.old) }
@@ -249,7 +260,8 @@ fn take_turns<N: Node, L: Link, C: Clock, K: Sink, D: Disk>(
     disk: &mut D,
     spare: &mut D,
 ) -> NodeEnd
-    requires { N.keeps (N.state node.old) node.old (D.told disk.old) (D.told spare.old) }
+    requires usable { N.is_usable node.old }
+    requires keeps { N.keeps (N.state node.old) node.old (D.told disk.old) (D.told spare.old) }
     ensures told { NodeServesOn N.leaves N.rule (N.state node.old) turns (beside (L.coming link.old) (L.sent link.old) (C.coming clock.old) (C.moment clock.old) (K.held sink.old)) result (N.state node.new) (beside (L.coming link.new) (L.sent link.new) (C.coming clock.new) (C.moment clock.new) (K.held sink.new)) (D.told disk.new) (D.told spare.new) }
     ensures opened { L.opened link.new ≡ L.opened link.old }
     ensures faults { L.faults link.new ≡ link_faults result (L.faults link.old) }

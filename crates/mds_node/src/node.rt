@@ -97,6 +97,8 @@ impl Node for MdsNode {
 
     ghost excuses = { λ _ _. false };
 
+    ghost is_usable = { λ _. ⊤ };
+
     ghost keeps = { λ _ _ _ _. ⊤ };
 
     ghost leaves = { LeavesNothing };

@@ -177,6 +177,8 @@ impl Node for GetNode {
 
     ghost excuses = { λ _ _. false };
 
+    ghost is_usable = { λ _. ⊤ };
+
     ghost keeps = { λ _ _ _ _. ⊤ };
 
     ghost leaves = { LeavesNothing };

@@ -135,6 +135,8 @@ impl Node for PutNode {
 
     ghost excuses = { λ _ _. false };
 
+    ghost is_usable = { λ _. ⊤ };
+
     ghost keeps = { λ _ _ _ _. ⊤ };
 
     ghost leaves = { LeavesNothing };
