@@ -128,9 +128,6 @@ began_all (Some held) text new all =
 fault_is : (r : Result ℕ EventFault) (e e' : EventFault) → r ≡ Err e → r ≡ Err e' → e' ≡ e
 fault_is r e e' one other = cc (one, other)
 
-ok_is : (r : Result ℕ EventFault) (n n' : ℕ) → r ≡ Ok n → r ≡ Ok n' → n' ≡ n
-ok_is r n n' one other = cc (one, other)
-
 module _ {S : Type 0} (rule : NodeRule S) where
   -- ---- events behind events
 
@@ -534,6 +531,30 @@ module _ {S : Type 0} (rule : NodeRule S) where
             broken = λ e' err. inr (fault_is (Err fault.NoMemory) fault.NoMemory e' refl err, all_text, part);
             left = λ e' err. subst Left all_state has;
           }
+
+      abbrev result_ok : ℕ → Result ℕ EventFault
+      result_ok n = Ok n
+
+      -- all were done
+      pub all_done : (sent_by : Result (Unit {0}) NoMemory) → is_err sent_by ≡ false → SendsAll b2.sent sends2 sent_by b'.sent → s' ≡ s2 → (m : ℕ) → m ≡ 1 + n → DoesTogether rule Left s first more b (Ok m) s' b'
+      all_done (Err e) none sent_so same m is = absurd (cc (none))
+      all_done (Ok x) none sent_so same m is =
+          let sent_all : b'.sent ≡ behind b.sent (sends_over rule s events) = sent_so ∙ ap (λ (o : Option SentRecords). behind o sends2) all_sent ∙ ap (behind b.sent) all_sends in
+          let count : length all.taken ≡ n = all.count in
+          record {
+            taken = all.taken;
+            few = all_few;
+            came = all_came;
+            moments = all_moments;
+            live = all.live;
+            going = all_going;
+            done = λ k ok. (counts k ok count, same ∙ all_state, sent_all, all_text);
+            broken = λ e err. absurd (cc (err));
+            left = λ e err. absurd (cc (err));
+          }
+        where
+          counts : (k : ℕ) → result_ok m ≡ result_ok k → length all.taken ≡ n → k ≡ 1 + length all.taken
+          counts k ok count = let its : k ≡ m = cc (ok) in omega (arith, its, is, count)
 
 -- ---- counts of faults
 

@@ -156,7 +156,7 @@ fn take_together<N: Node, L: Link, C: Clock, K: Sink, D: Disk>(
     if send_all(out.sends, link).is_err() {
         return Err(EventFault::NoMemory);
     }
-    Ok(taken)
+    Ok(1 + taken)
 }
 
 /// Takes what comes next at the clock's moment, with what came together with it, as far as so many arrivals may still be
