@@ -44,13 +44,13 @@ settles_on old disk spare result new disk' spare' is settles = subst (λ (x : Op
 pub keeps_on : {T : Type 0} (settled : ServerState) (old new : KeptState) (disk spare disk' spare' : Option DiskLife) (result : Result T StoreFault) (x : T) → result ≡ Ok x
     → ((s : ServerState) (began began_spare : Option DiskLife) → WaitsSince s old.server old.log began began_spare disk spare → TakesSince s began began_spare result new disk' spare')
     → KeepsSettled settled old disk spare → KeepsSettled settled new disk' spare'
-keeps_on settled old new disk spare disk' spare' result x ok takes (began, (began_spare, waits)) = (began, (began_spare, (takes settled began began_spare waits).waits x ok))
+keeps_on settled old new disk spare disk' spare' result x ok takes (began, began_spare, waits) = (began, began_spare, (takes settled began began_spare waits).waits x ok)
 
 -- where one was not a crash leaves the settled server
 pub leaves_settled : {T : Type 0} (settled broken : ServerState) (old new : KeptState) (disk spare disk' spare' : Option DiskLife) (result : Result T StoreFault)
     → ((s : ServerState) (began began_spare : Option DiskLife) → WaitsSince s old.server old.log began began_spare disk spare → TakesSince s began began_spare result new disk' spare')
     → KeepsSettled settled old disk spare → server_leaves settled broken disk' spare'
-leaves_settled settled broken old new disk spare disk' spare' result takes (began, (began_spare, waits)) =
+leaves_settled settled broken old new disk spare disk' spare' result takes (began, began_spare, waits) =
     now_weaker (SaysServer settled) (SaysEither settled broken) (λ left left_spare says. inl says) disk' spare'
     (both_new (SaysServer settled) began began_spare disk' spare' (takes settled began began_spare waits).since)
 
@@ -58,15 +58,15 @@ leaves_settled settled broken old new disk spare disk' spare' result takes (bega
 pub keeps_settled : (settled : ServerState) (old new : KeptState) (disk spare disk' spare' : Option DiskLife) (result : Result (Unit {0}) StoreFault) (x : Unit {0}) → result ≡ Ok x → new.server ≡ old.server
     → ((s : ServerState) (began began_spare : Option DiskLife) → WaitsSince s old.server old.log began began_spare disk spare → LogsStep s old.server began began_spare result new.log disk' spare')
     → KeepsSettled settled old disk spare → KeepsSettled new.server new disk' spare'
-keeps_settled settled old new disk spare disk' spare' result x ok same settles (began, (began_spare, waits)) =
+keeps_settled settled old new disk spare disk' spare' result x ok same settles (began, began_spare, waits) =
     let holds : IsLogOf new.server new.log disk' spare' = subst (λ (s : ServerState). IsLogOf s new.log disk' spare') (sym same) ((settles settled began began_spare waits).kept x ok) in
-    (disk', (spare', waits_from new.server new.log disk' spare' holds))
+    (disk', spare', waits_from new.server new.log disk' spare' holds)
 
 -- or it was not, and a crash leaves the one server or the other
 pub leaves_unsettled : (settled : ServerState) (old new : KeptState) (disk spare disk' spare' : Option DiskLife) (result : Result (Unit {0}) StoreFault)
     → ((s : ServerState) (began began_spare : Option DiskLife) → WaitsSince s old.server old.log began began_spare disk spare → LogsStep s old.server began began_spare result new.log disk' spare')
     → KeepsSettled settled old disk spare → server_leaves settled old.server disk' spare'
-leaves_unsettled settled old new disk spare disk' spare' result settles (began, (began_spare, waits)) =
+leaves_unsettled settled old new disk spare disk' spare' result settles (began, began_spare, waits) =
     both_new (SaysEither settled old.server) began began_spare disk' spare' (settles settled began began_spare waits).since
 
 -- ---- counts of faults

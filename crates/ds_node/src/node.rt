@@ -84,7 +84,10 @@ impl DsNode {
         ensures sink { (n : ℕ) → sink_counted result n ≡ n }
     {
         let before = out.sends.len();
-        if let Err(fault) = self.kept.take_record(disk, spare, from, bytes, Logging::Off, out) {
+        if let Err(fault) = self
+            .kept
+            .take_record(disk, spare, from, bytes, Logging::Off, out)
+        {
             return Err(fault_of(fault));
         }
         Ok(out.sends.len() == before)
@@ -139,10 +142,10 @@ impl Node for DsNode {
     }
 
     fn settle<D: Disk>(&mut self, disk: &mut D, spare: &mut D) -> Result<(), Failed> {
-        match self.kept.settle(disk, spare) {
-            Ok(()) => Ok(()),
-            Err(fault) => Err(failed_of(fault)),
+        if let Err(fault) = self.kept.settle(disk, spare) {
+            return Err(failed_of(fault));
         }
+        Ok(())
     }
 
     fn outcome(&self) -> Option<Result<(), FailCause>> {
