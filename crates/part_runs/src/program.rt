@@ -7,7 +7,7 @@ use rpc_record::{MemorySink, MemorySource};
 use std::alloc::Global;
 use store_disk::MemoryDisk;
 
-/// The calls that fail, by their numbers from 1.
+/// The calls that fail, by their numbers from 1, and whether what comes over the link is there at once.
 #[derive(Drop)]
 pub struct Failing {
     pub source: Vec<u64>,
@@ -16,6 +16,7 @@ pub struct Failing {
     pub disk: Vec<u64>,
     pub spare: Vec<u64>,
     pub link: Vec<u64>,
+    pub is_at_once: bool,
 }
 
 impl Failing {
@@ -28,6 +29,7 @@ impl Failing {
             disk: Vec::new(alloc),
             spare: Vec::new(alloc),
             link: Vec::new(alloc),
+            is_at_once: false,
         }
     }
 }
@@ -69,6 +71,20 @@ pub struct Ended {
     pub link: MemoryLink,
 }
 
+/// The link over which these come: each is waited for, or all records are there at once.
+fn link_over(
+    alloc: Global,
+    arrivals: Vec<Arrival>,
+    failing: Vec<u64>,
+    is_at_once: bool,
+) -> MemoryLink {
+    let link = MemoryLink::new(alloc, arrivals, failing);
+    if is_at_once {
+        return link.at_once();
+    }
+    link
+}
+
 /// Runs the program.
 pub fn ran(alloc: Global, over: Over) -> Result<Ended, NoMemory> {
     let Over {
@@ -84,7 +100,7 @@ pub fn ran(alloc: Global, over: Over) -> Result<Ended, NoMemory> {
     let mut source = MemorySource::new(text, failing.source);
     let mut sink = MemorySink::new(alloc, failing.sink);
     let mut notes = MemorySink::new(alloc, failing.notes);
-    let mut link = MemoryLink::new(alloc, arrivals, failing.link);
+    let mut link = link_over(alloc, arrivals, failing.link, failing.is_at_once);
     let mut clock = MemoryClock::new(moments);
     let status = run(
         alloc,

@@ -44,16 +44,21 @@ impl Failing {
     }
 }
 
-/// The calls that fail, as `source:2,notes:1`; `-` is none.
+/// The calls that fail, as `source:2,notes:1`; `together` among them says that what comes over the link is there at once; `-` is
+/// none.
 fn read_failing(words: &mut Words<'_>) -> Failing {
     let mut failing = Failing::none(words.alloc());
     if words.is_none() {
         return failing;
     }
     for text in words.word().split(',') {
-        let mut item = Words::of(words.alloc(), text);
-        failing.read(&mut item);
-        words.behind(item);
+        if text == "together" {
+            failing.is_at_once = true;
+        } else {
+            let mut item = Words::of(words.alloc(), text);
+            failing.read(&mut item);
+            words.behind(item);
+        }
     }
     failing
 }
