@@ -9,9 +9,11 @@ mod outbox;
 mod server;
 mod store;
 mod stored_file;
+mod trystore;
 
 pub use client::ClientRows;
 pub use mds::MdsRows;
 pub use server::ServerRows;
 pub use store::StoreRows;
 pub use stored_file::DataFileRows;
+pub use trystore::TryStoreRows;

@@ -7,7 +7,7 @@ use part_log::GateLogRows;
 use part_mds::{FileRows, OpensRows, OperationRows};
 use part_mds_bytes::{MdsReceiveRows, RecallCallsRows};
 use part_messages::MessageRows;
-use part_nodes::{ClientRows, DataFileRows, MdsRows, ServerRows, StoreRows};
+use part_nodes::{ClientRows, DataFileRows, MdsRows, ServerRows, StoreRows, TryStoreRows};
 use part_pages::PagesRows;
 use part_runs::{ConfigRows, LineRows, RunRows};
 use part_state::{
@@ -63,6 +63,7 @@ fn on_nodes<V: Player>(alloc: Global, kind: &str, player: &mut V) -> bool {
         "run" => on(player, RunRows),
         "server" => on(player, ServerRows::new(alloc)),
         "store" => on(player, StoreRows::new(alloc)),
+        "trystore" => on(player, TryStoreRows),
         _ => false,
     }
 }
